@@ -1,0 +1,7 @@
+use mathlib.Core.Path.{sym}
+use native.Mathlib.Omega.{arith}
+use Rattle.records.proofs.Numbers.{number-past}
+use Rattle.records.proofs.bytes.u32_at.Needs as need
+
+pub returns-then-place-file : need.returns-then-place-file
+returns-then-place-file c = sym (number-past 4 (c .args .file .now) (c .args .place) (omega arith))
