@@ -19,7 +19,7 @@ use Rattle.bounds.proofs.Rows.{inside-length, inside-all, cells-void, cells-sa
 use Rattle.bounds.proofs.Exactly.{exact-void}
 use Rattle.bounds.proofs.ExactLaws.{exact-laws}
 use Rattle.bounds.proofs.Beside.{idle-laws}
-use Rattle.bounds.proofs.Scopes.{fits-at, names-at, length-gather, gather-at, gather-same, length-scatter, scatter-both, scatter-each}
+use Rattle.bounds.proofs.Scopes.{fits-at, names-at, length-gather, gather-at, gather-same, length-scatter, scatter-both, scatter-each, scatter-free}
 
 -- the rows and the counts of a scope that fits
 module _ (cs : List ℕ) (a : List Row) (fit : fits cs (length a) ≡ true) where
@@ -83,8 +83,7 @@ module _ (cs : List ℕ) (a : List Row) (fit : fits cs (length a) ≡ true) wher
   put-frame : (n : Board) → Within n (cells own) → (g : List Row) → put cs n a ≡ cells g
       → (c : ℕ) → c < length a → names cs c ≡ false → getD a c none-row ≡ getD g c none-row
   put-frame void w g e = absurd (cells-void g (sym e))
-  put-frame (cells h) w g e = λ c l free. scatter-each none-row (λ j x. names cs j ≡ false → getD a j none-row ≡ x) cs h a (own-size h w)
-      (λ i k x. absurd (both-ways _ x (names-at cs i k))) (λ _ _ _. refl) c l free ∙ ap (λ (x : List Row). getD x c none-row) (cells-same _ g e)
+  put-frame (cells h) w g e = λ c l free. scatter-free none-row cs h a (own-size h w) c l free ∙ ap (λ (x : List Row). getD x c none-row) (cells-same _ g e)
 
 put-monotone : (cs : List ℕ) (a b : List Row) (m n : Board) → Inside a b → Within m (cells (gather none-row cs a)) → Within n (cells (gather none-row cs b))
     → Within m n → Within (put cs m a) (put cs n b)
