@@ -10,6 +10,7 @@ use Rattle.std.proofs.shelf.Tests.{cases-lt}
 use Rattle.bounds.specs.declared.row.Row.{Row}
 use Rattle.bounds.specs.Boards.{Board, void, cells, Within, Fills, Lies}
 use Rattle.bounds.specs.Exact.{fillings, only, point, join, widen, hull, exact}
+pub use Rattle.bounds.specs.Theorems.{Meeting}
 use Rattle.bounds.proofs.Places.{low-at, high-at, fills-length, fills-at, at-inside, inside-both}
 use Rattle.bounds.proofs.Members.{in-fillings, fillings-has, in-only, only-has}
 
@@ -95,10 +96,6 @@ widen-hull p ps (cells g) same t =
 hull-is : (n : ℕ) (ps : List (List ℕ)) → ((p : List ℕ) → Among ps p → length p ≡ n) → Hull (Among ps) (hull ps)
 hull-is n [] same = λ p m. List·Memᴰ·not-nil m
 hull-is n (p ∷ ps) same = widen-hull p ps (hull ps) (λ q m. omega (arith, same p (List·Memᴰ·head refl), same q (List·Memᴰ·tail m))) (hull-is n ps (λ q m. same q (List·Memᴰ·tail m)))
-
--- the fillings in a that meet the rule
-abbrev pub Meeting : (List ℕ → Bool) → List Row → List ℕ → Type 0
-Meeting meets a p = Fills p a × (meets p ≡ true)
 
 pub exact-is : (meets : List ℕ → Bool) (a : List Row) → Hull (Meeting meets a) (exact meets a)
 exact-is meets a =
