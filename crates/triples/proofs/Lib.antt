@@ -1,2 +1,2 @@
 pub mod Frames
-pub mod Kinds
+pub mod Closed
