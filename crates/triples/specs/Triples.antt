@@ -6,6 +6,8 @@ use lib.Dec.{eqb, leb}
 use lib.ListN.{getD}
 use Rattle.std.specs.declared.option.Option.{Option}
 use Rattle.std.specs.declared.option.Option.the-variants.{Some, None}
+use Rattle.bounds.specs.declared.row.Row.{Row}
+use Rattle.bounds.specs.Boards.{Board, void, cells}
 use Rattle.bounds.specs.Laws.{Meaning}
 use Rattle.bounds.specs.Scoped.{Scoped, exact-on}
 use Rattle.bounds.specs.Listed.{listed}
@@ -56,3 +58,8 @@ triple-rule f i = rule-or-none (read f i)
 
 abbrev pub triples : List ℕ → List ℕ → Meaning
 triples file places = listed triple-rule file places
+
+-- the board that an answer stands for: none is void
+abbrev pub board-of : Option (List Row) → Board
+board-of None = void
+board-of (Some g) = cells g

@@ -1,2 +1,3 @@
 pub mod kind;
+pub mod narrowing;
 pub mod triple;
