@@ -1,3 +1,4 @@
 pub mod Frames
 pub mod Closed
 pub mod Arrays
+pub mod Same

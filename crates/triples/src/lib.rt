@@ -1,3 +1,4 @@
 pub mod kind;
+pub mod named;
 pub mod narrowing;
 pub mod triple;
