@@ -1,4 +1,5 @@
 pub mod kind;
 pub mod named;
 pub mod narrowing;
+pub mod theory;
 pub mod triple;
