@@ -33,8 +33,9 @@ not-names (x ∷ cs) c h = cond-false (eqb x c) true (names cs c) (ne-eqb x c (h
 names-place : (cs : List ℕ) (c : ℕ) → names cs c ≡ true → (i : ℕ) × (i < length cs) × (getD cs i 0 ≡ c)
 names-place [] c n = absurd (both-ways false refl n)
 names-place (x ∷ cs) c n = elim (cases-bool (eqb x c)) [
-  inl e ↦ (0, omega arith, eqb-true x c e)
-  | inr e ↦ let (i, l, k) = names-place cs c (sym (cond-false (eqb x c) true (names cs c) e) ∙ n) in (suc i, omega arith, k) ]
+  | inl e ↦ (0, omega arith, eqb-true x c e)
+  | inr e ↦ let (i, l, k) = names-place cs c (sym (cond-false (eqb x c) true (names cs c) e) ∙ n) in (suc i, omega arith, k)
+]
 
 module _ {A : Type 0} (d : A) where
   pub length-gather : (cs : List ℕ) (xs : List A) → length (gather d cs xs) ≡ length cs
@@ -110,9 +111,10 @@ module _ {A : Type 0} (d : A) (cs : List ℕ) (g xs : List A) (size : length g �
   -- and if the named ones do too, nothing has changed
   pub scatter-same : gather d cs xs ≡ gather d cs (scatter cs g xs) → xs ≡ scatter cs g xs
   scatter-same h = ext-getD d xs _ (sym (length-scatter cs g xs)) (λ c l. elim (cases-bool (names cs c)) [
-    inl n ↦ let (i, k, e) = names-place cs c n in subst (λ j. getD xs j d ≡ getD (scatter cs g xs) j d) e
-      (sym (gather-at d cs xs i k) ∙ ap (λ (x : List A). getD x i d) h ∙ gather-at d cs (scatter cs g xs) i k)
-    | inr n ↦ scatter-free c l n ])
+    | inl n ↦ let (i, k, e) = names-place cs c n in subst (λ j. getD xs j d ≡ getD (scatter cs g xs) j d) e
+        (sym (gather-at d cs xs i k) ∙ ap (λ (x : List A). getD x i d) h ∙ gather-at d cs (scatter cs g xs) i k)
+    | inr n ↦ scatter-free c l n
+  ])
 
 -- one more write
 pub scatter-more : {A : Type 0} (cs : List ℕ) (g xs : List A) (i : ℕ) (d : A) → i < length cs → length g ≡ length cs

@@ -68,23 +68,46 @@ pub fn narrow<R: Named>(rule: &R, rows: &mut [Row]) -> Change
     ensures { λ r. ⌜ Narrows (on-board (scoped (now (rule .entry))) .narrowed) (now (rows .entry)) (now (rows .exit)) r ⌝ }
 {
     let arity = rule.arity();
-    let mut own = [Row { low: 0, high: 0 }; MOST_NAMED];
-    if !gathered(rule, rows, &mut own[0..arity]) {
+    let mut room = [Row { low: 0, high: 0 }; MOST_NAMED];
+    narrow_through(rule, rows, &mut room[0..arity])
+}
+
+// The same by way of room for the rows of the named cells.
+fn narrow_through<R: Named>(rule: &R, rows: &mut [Row], own: &mut [Row]) -> Change
+    requires own { ⌜ length (now own) ≡ length (scoped (now rule) .scope) ⌝ }
+    requires sound { ⌜ sound (now rows) ≡ true ⌝ }
+    ensures { λ r. ⌜ Narrows (on-board (scoped (now (rule .entry))) .narrowed) (now (rows .entry)) (now (rows .exit)) r ⌝ }
+{
+    if !gathered(rule, rows, own) {
         return Change::Quiet;
     }
-    let before = own;
-    match rule.narrow_own(&mut own[0..arity]) {
+    match rule.narrow_own(own) {
         Change::Quiet => Change::Quiet,
         Change::Void => Change::Void,
         Change::Narrowed => {
-            scattered(rule, &own[0..arity], rows);
-            if changed(rule, &before[0..arity], rows) {
+            if written_back(rule, rows, own) {
                 Change::Narrowed
             } else {
                 Change::Quiet
             }
         }
     }
+}
+
+// Writes the rows to the named cells. False if the board is what it was: a cell that is named twice may get its row again.
+fn written_back<R: Named>(rule: &R, rows: &mut [Row], own: &[Row]) -> bool
+    requires own { ⌜ length (now own) ≡ length (scoped (now rule) .scope) ⌝ }
+    requires whole { ⌜ fits (scoped (now rule) .scope) (length (now rows)) ≡ true ⌝ }
+    ensures written { λ _. ⌜ now (rows .exit) ≡ scatter (scoped (now (rule .entry)) .scope) (now (own .entry)) (now (rows .entry)) ⌝ }
+    ensures same { λ r. ⌜ (r ≡ false → now (rows .exit) ≡ now (rows .entry)) ⌝ }
+    ensures differs { λ r. ⌜ (r ≡ true → now (rows .exit) ≢ now (rows .entry)) ⌝ }
+{
+    let arity = rule.arity();
+    let mut room = [Row { low: 0, high: 0 }; MOST_NAMED];
+    let before = &mut room[0..arity];
+    gathered(rule, rows, before);
+    scattered(rule, rows, own);
+    changed(rule, rows, before)
 }
 
 // Copies the rows of the named cells; false if one of them is missing.
@@ -103,7 +126,7 @@ fn gathered<R: Named>(rule: &R, rows: &[Row], own: &mut [Row]) -> bool
     true
 }
 
-fn scattered<R: Named>(rule: &R, own: &[Row], rows: &mut [Row])
+fn scattered<R: Named>(rule: &R, rows: &mut [Row], own: &[Row])
     requires own { ⌜ length (now own) ≡ length (scoped (now rule) .scope) ⌝ }
     requires whole { ⌜ fits (scoped (now rule) .scope) (length (now rows)) ≡ true ⌝ }
     ensures { λ _. ⌜ now (rows .exit) ≡ scatter (scoped (now (rule .entry)) .scope) (now (own .entry)) (now (rows .entry)) ⌝ }
@@ -113,8 +136,8 @@ fn scattered<R: Named>(rule: &R, own: &[Row], rows: &mut [Row])
     }
 }
 
-// Whether a named row is not what it was: a cell that is named twice may have its first row again.
-fn changed<R: Named>(rule: &R, before: &[Row], rows: &[Row]) -> bool
+// Whether a named row is not what it was.
+fn changed<R: Named>(rule: &R, rows: &[Row], before: &[Row]) -> bool
     requires own { ⌜ length (now before) ≡ length (scoped (now rule) .scope) ⌝ }
     requires whole { ⌜ fits (scoped (now rule) .scope) (length (now rows)) ≡ true ⌝ }
     ensures same { λ r. ⌜ (r ≡ false → now (before .entry) ≡ gather none-row (scoped (now (rule .entry)) .scope) (now (rows .entry))) ⌝ }
