@@ -9,8 +9,9 @@ use Rattle.std.specs.declared.option.Option.the-variants.{Some, None}
 use Rattle.bounds.specs.declared.row.Row.{Row}
 use Rattle.bounds.specs.Boards.{Board, void, cells}
 use Rattle.bounds.specs.Laws.{Meaning}
-use Rattle.bounds.specs.Scoped.{Scoped, exact-on}
+use Rattle.bounds.specs.Scoped.{Scoped, ScopedLaws, exact-on}
 use Rattle.bounds.specs.Listed.{listed}
+use Rattle.bounds.proofs.Lifted.{exact-on-laws}
 use Rattle.records.specs.Records.{triple-at}
 use Rattle.triples.specs.declared.kind.TripleKind.{TripleKind}
 use Rattle.triples.specs.declared.kind.TripleKind.the-variants.{Union, Intersection, UnionPlus, Subset}
@@ -55,6 +56,13 @@ rule-or-none None = exact-on [] (λ _. true)
 
 abbrev pub triple-rule : List ℕ → ℕ → Scoped
 triple-rule f i = rule-or-none (read f i)
+
+rule-laws : (o : Option Triple) → ScopedLaws (rule-or-none o)
+rule-laws (Some t) = exact-on-laws (scope (t .kind) (t .a) (t .b) (t .c)) (relation (t .kind))
+rule-laws None = exact-on-laws [] (λ _. true)
+
+pub triple-laws : (f : List ℕ) (i : ℕ) → ScopedLaws (triple-rule f i)
+triple-laws f i = rule-laws (read f i)
 
 abbrev pub triples : List ℕ → List ℕ → Meaning
 triples file places = listed triple-rule file places

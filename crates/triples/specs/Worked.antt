@@ -31,9 +31,9 @@ records = 7 ∷ (7 ∷ (1 ∷ (0 ∷ (3 ∷ (0 ∷ (0 ∷ (0 ∷ (1 ∷ (0 ∷ (
 abbrev pub Records-worked : Type 0
 Records-worked =
     (on-board (triple-rule records 2) .narrowed (row 0 2 ∷ (row 3 9 ∷ (row 7 8 ∷ (row 0 5 ∷ []))))
-        ≡ cells (row 0 2 ∷ (row 3 5 ∷ (row 7 8 ∷ (row 3 5 ∷ [])))))
+    ≡ cells (row 0 2 ∷ (row 3 5 ∷ (row 7 8 ∷ (row 3 5 ∷ [])))))
     × (on-board (triple-rule records 10) .narrowed (row 0 3 ∷ (row 2 2 ∷ (row 4 9 ∷ (row 0 5 ∷ []))))
-        ≡ cells (row 2 3 ∷ (row 2 2 ∷ (row 4 5 ∷ (row 0 5 ∷ [])))))
+    ≡ cells (row 2 3 ∷ (row 2 2 ∷ (row 4 5 ∷ (row 0 5 ∷ [])))))
 
 -- a triple that names no cell twice narrows every board to the hull of the fillings that meet it
 abbrev pub Exact-on-boards : Type 0

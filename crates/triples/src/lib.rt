@@ -1,3 +1,4 @@
+pub mod family;
 pub mod kind;
 pub mod named;
 pub mod narrowing;
