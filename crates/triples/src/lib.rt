@@ -2,5 +2,7 @@ pub mod family;
 pub mod kind;
 pub mod named;
 pub mod narrowing;
+#[cfg(test)]
+mod tests;
 pub mod theory;
 pub mod triple;
