@@ -4,5 +4,5 @@ pub mod named;
 pub mod narrowing;
 #[cfg(test)]
 mod tests;
-pub mod theory;
 pub mod triple;
+pub mod worked;
