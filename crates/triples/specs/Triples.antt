@@ -1,5 +1,6 @@
 -- Triples: what each kind asks of the counts of its cells, and the rule that a record of the file is.
 use Prim.Native.Nat.{ℕ, _+_, min, max}
+use mathlib.Core.Path.{_≡_}
 use mathlib.Core.Bool.{Bool, true, cond}
 use mathlib.Core.List.{List, [], _∷_}
 use lib.Dec.{eqb, leb}
@@ -7,9 +8,10 @@ use lib.ListN.{getD}
 use Rattle.std.specs.declared.option.Option.{Option}
 use Rattle.std.specs.declared.option.Option.the-variants.{Some, None}
 use Rattle.bounds.specs.declared.row.Row.{Row}
-use Rattle.bounds.specs.Boards.{Board, void, cells}
+use Rattle.bounds.specs.Boards.{Board, void, cells, sound}
+use Rattle.bounds.specs.Exact.{exact}
 use Rattle.bounds.specs.Laws.{Meaning}
-use Rattle.bounds.specs.Scoped.{Scoped, ScopedLaws, exact-on}
+use Rattle.bounds.specs.Scoped.{Scoped, ScopedLaws, on-board, exact-on}
 use Rattle.bounds.specs.Listed.{listed}
 use Rattle.bounds.proofs.Lifted.{exact-on-laws}
 use Rattle.records.specs.Records.{triple-at}
@@ -71,3 +73,7 @@ triples file places = listed triple-rule file places
 abbrev pub board-of : Option (List Row) → Board
 board-of None = void
 board-of (Some g) = cells g
+
+-- on every board the narrowing is the hull of the board's fillings that meet the rule
+abbrev pub Exact-on-boards : Scoped → Type 0
+Exact-on-boards s = (a : List Row) → sound a ≡ true → on-board s .narrowed a ≡ exact (on-board s .meets) a
