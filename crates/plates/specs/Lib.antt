@@ -1,0 +1,2 @@
+pub mod Plates
+pub mod Form
