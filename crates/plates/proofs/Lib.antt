@@ -4,3 +4,6 @@ pub mod Moves
 pub mod Counts
 pub mod Spans
 pub mod Exactness
+pub mod Adding
+pub mod Frames
+pub mod Writes

@@ -1,2 +1,3 @@
 pub mod Plates
 pub mod Form
+pub mod Work

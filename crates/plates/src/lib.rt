@@ -1,1 +1,1 @@
-pub mod frame;
+mod frame;
