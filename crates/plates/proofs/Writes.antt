@@ -1,26 +1,36 @@
 -- A loop that writes f x over each row x, and notes whether one differs.
-use Prim.Native.Nat.{ℕ, suc, _≤_, _<_, _+_}
-use mathlib.Core.Path.{_≡_, refl, sym, ap, ap₂, _∙_}
-use mathlib.Core.Bool.{Bool, true, false}
+use Prim.Native.Nat.{ℕ, _≤_, _<_, _+_}
+use mathlib.Core.Path.{_≡_, refl, sym, ap, _∙_}
+use mathlib.Core.Bool.{Bool, true, false, cond, not}
 use mathlib.Core.Logic.{_≢_, _⊎_, inl, inr}
-use mathlib.Core.List.{List, [], _∷_, map}
+use mathlib.Core.List.{List, map}
 use native.Mathlib.Omega.{arith}
 use borrow.Author.Count.{below-more}
 use lib.ListN.{length, getD, set}
 use lib.Seq.{getD-set-same, getD-set-other}
 use Rattle.std.proofs.shelf.Lists.{length-map, getD-map}
-use Rattle.std.proofs.shelf.Tests.{true≢false}
+use Rattle.std.proofs.shelf.Tests.{true≢false, false≢true, both-ways}
+use Rattle.std.specs.Orderings.{Decides}
 use Rattle.bounds.specs.declared.row.Row.{Row}
 use Rattle.bounds.specs.Boards.{none-row}
+use Rattle.bounds.proofs.Places.{same-row, same-rows}
 use Rattle.plates.specs.declared.frame.Frame.{Frame}
 use Rattle.plates.specs.Form.{count-of}
 use Rattle.plates.specs.Work.{Wrote}
 
-pub same-rows : (xs ys : List Row) → length xs ≡ length ys → ((k : ℕ) → k < length xs → getD xs k none-row ≡ getD ys k none-row) → xs ≡ ys
-same-rows [] [] e h = refl
-same-rows [] (y ∷ ys) e h = absurd (omega arith)
-same-rows (x ∷ xs) [] e h = absurd (omega arith)
-same-rows (x ∷ xs) (y ∷ ys) e h = ap₂ _∷_ (h 0 (omega arith)) (same-rows xs ys (omega arith) (λ k l. h (suc k) (omega arith)))
+-- what `!=` on rows says
+abbrev pub Compared : Row → Row → Bool → Type 0
+Compared a b r = (x : Bool)
+    × cond {A = Type 0} x (Decides true (a .low ≡ b .low) × Decides true (a .high ≡ b .high))
+    ((Decides false (a .low ≡ b .low) → ⊥) → (Decides false (a .high ≡ b .high) → ⊥) → ⊥)
+    × (r ≡ not x)
+
+pub rows-differ : (a b : Row) (r : Bool) → Compared a b r → (r ≡ true → a ≢ b) × (r ≡ false → a ≡ b)
+rows-differ a b r (true, (p, q), e) = (λ t. absurd (both-ways r e t), λ _. same-row a b (p .0 refl) (q .0 refl))
+rows-differ a b r (false, h, e) = (
+  λ _ same. h (λ d. absurd (false≢true (d .1 (ap (λ (x : Row). x .low) same)))) (λ d. absurd (false≢true (d .1 (ap (λ (x : Row). x .high) same)))),
+  λ f. absurd (both-ways r f e),
+)
 
 -- the rows xs were there, and ys is there now, written below i
 pub record Writing (f : Row → Row) (xs ys : List Row) (i : ℕ) (b : Bool) : Type 0 where
@@ -55,7 +65,7 @@ writing-more f xs ys i b d n l w e t =
 pub writing-all : (f : Frame) (xs ys : List Row) (i : ℕ) (b : Bool) → length ys ≡ length xs → length xs ≤ i → Writing (count-of f) xs ys i b → Wrote f xs ys b
 writing-all f xs ys i b n l w =
     let is : ys ≡ map (count-of f) xs = same-rows ys (map (count-of f) xs) (n ∙ sym (length-map xs (count-of f)))
-    (λ k h. w .done k (omega arith) ∙ sym (getD-map (count-of f) xs k none-row none-row (omega arith))) in
+    (λ k h. w .done k (omega (arith, length-map xs (count-of f))) ∙ sym (getD-map (count-of f) xs k none-row none-row (omega (arith, length-map xs (count-of f))))) in
     record {
       is = is;
       same = λ z. same-rows ys xs n (λ k h. w .done k (omega arith) ∙ w .same z k (omega arith));
