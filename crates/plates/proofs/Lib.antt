@@ -7,3 +7,4 @@ pub mod Exactness
 pub mod Adding
 pub mod Frames
 pub mod Writes
+pub mod Whole
