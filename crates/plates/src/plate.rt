@@ -3,23 +3,20 @@ ghost use Prim.Native.Nat.{_≤_};
 ghost use mathlib.Core.Path.{_≡_};
 ghost use mathlib.Core.Bool.{true};
 ghost use lib.ListN.{length};
-ghost use denote.Ref.{now as held};
+ghost use denote.Ref.{now};
 ghost use Rattle.bounds.specs.Boards.{sound};
 ghost use Rattle.bounds.specs.Exact.{exact};
 ghost use Rattle.board.specs.Narrows.{Narrows};
 ghost use Rattle.plates.specs.Plates.{plate, plate-rule};
+use crate::frame::Frame;
 use board::change::Change;
 use bounds::row::Row;
 use bounds::row::RowPartialEq;
 use records::bytes::u16_at;
 use rules::named::Named;
-use crate::frame::Frame;
 
 // The most designs on a plate.
 const MOST_COUNTS: usize = 64;
-
-// Where the file's bytes have the number of counts, and the first of them.
-const COUNTS: usize = 4;
 
 // The plate whose record stands at a place of the file.
 #[derive(Clone, Copy)]
@@ -29,7 +26,7 @@ pub struct Plate<'f> {
 }
 
 // Narrows the rows of the slots, the variety and the counts to the hull of the fillings that meet the rule.
-pub fn narrow(rows: &mut [Row]) -> Change
+pub(crate) fn narrow(rows: &mut [Row]) -> Change
     requires { ⌜ 2 ≤ length (now rows) ⌝ }
     requires { ⌜ length (now rows) ≤ 66 ⌝ }
     requires { ⌜ sound (now rows) ≡ true ⌝ }
@@ -51,5 +48,32 @@ pub fn narrow(rows: &mut [Row]) -> Change
         Change::Narrowed
     } else {
         Change::Quiet
+    }
+}
+
+pub impl Named for Plate<'_> as PlateNamed {
+    ghost scoped = { λ p. plate-rule (now (p .file)) (p .place) };
+
+    fn arity(&self) -> usize {
+        let counts = u16_at(self.file, self.place as usize + 4) as usize;
+        if 0 < counts && counts <= MOST_COUNTS {
+            counts + 2
+        } else {
+            0
+        }
+    }
+
+    fn cell(&self, i: usize) -> usize {
+        // the number of counts stands between the variety and the first count
+        let index = if i < 2 { i } else { i + 1 };
+        u16_at(self.file, self.place as usize + 2 * index) as usize
+    }
+
+    fn narrow_own(&self, own: &mut [Row]) -> Change {
+        if own.is_empty() {
+            Change::Quiet
+        } else {
+            narrow(own)
+        }
     }
 }
