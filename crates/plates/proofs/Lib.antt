@@ -9,3 +9,4 @@ pub mod Frames
 pub mod Writes
 pub mod Whole
 pub mod Scopes
+pub mod Answered

@@ -1,2 +1,3 @@
 mod frame;
 pub mod plate;
+pub mod worked;
