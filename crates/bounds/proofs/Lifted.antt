@@ -19,7 +19,7 @@ use Rattle.bounds.proofs.Rows.{inside-length, inside-all, cells-void, cells-sa
 use Rattle.bounds.proofs.Exactly.{exact-void}
 use Rattle.bounds.proofs.ExactLaws.{exact-laws}
 use Rattle.bounds.proofs.Beside.{idle-laws}
-use Rattle.bounds.proofs.Scopes.{fits-at, names-at, length-gather, gather-at, gather-same, length-scatter, scatter-both, scatter-each}
+use Rattle.bounds.proofs.Scopes.{fits-at, names-at, length-gather, gather-at, gather-same, scatter-gather, length-scatter, scatter-both, scatter-each, scatter-free}
 
 -- the rows and the counts of a scope that fits
 module _ (cs : List ℕ) (a : List Row) (fit : fits cs (length a) ≡ true) where
@@ -34,7 +34,7 @@ module _ (cs : List ℕ) (a : List Row) (fit : fits cs (length a) ≡ true) wher
   own-at P all i l = let k : i < length cs = omega (arith, own-length) in
       subst (P (getD cs i 0)) (sym (gather-at none-row cs a i k)) (all (getD cs i 0) (fits-at cs (length a) fit i k))
 
-  own-sound : sound a ≡ true → sound own ≡ true
+  pub own-sound : sound a ≡ true → sound own ≡ true
   own-sound s = at-sound own (own-at (λ _ r. r .low ≤ r .high) (sound-at a s))
 
   own-inside : (b : List Row) → Inside a b → Inside own (gather none-row cs b)
@@ -83,8 +83,7 @@ module _ (cs : List ℕ) (a : List Row) (fit : fits cs (length a) ≡ true) wher
   put-frame : (n : Board) → Within n (cells own) → (g : List Row) → put cs n a ≡ cells g
       → (c : ℕ) → c < length a → names cs c ≡ false → getD a c none-row ≡ getD g c none-row
   put-frame void w g e = absurd (cells-void g (sym e))
-  put-frame (cells h) w g e = λ c l free. scatter-each none-row (λ j x. names cs j ≡ false → getD a j none-row ≡ x) cs h a (own-size h w)
-      (λ i k x. absurd (both-ways _ x (names-at cs i k))) (λ _ _ _. refl) c l free ∙ ap (λ (x : List Row). getD x c none-row) (cells-same _ g e)
+  put-frame (cells h) w g e = λ c l free. scatter-free none-row cs h a (own-size h w) c l free ∙ ap (λ (x : List Row). getD x c none-row) (cells-same _ g e)
 
 put-monotone : (cs : List ℕ) (a b : List Row) (m n : Board) → Inside a b → Within m (cells (gather none-row cs a)) → Within n (cells (gather none-row cs b))
     → Within m n → Within (put cs m a) (put cs n b)
@@ -113,6 +112,10 @@ module _ (s : Scoped) where
 
   missing : (a : List Row) → fits cs (length a) ≡ false → lifted .narrowed a ≡ cells a
   missing a f = cond-false _ _ _ f
+
+  -- a rule whose own narrowing is quiet is quiet on the board
+  pub lifted-quiet : (a : List Row) → fits cs (length a) ≡ true → result a ≡ cells (gather none-row cs a) → lifted .narrowed a ≡ cells a
+  lifted-quiet a f e = fitting a f ∙ ap (λ n. put cs n a) e ∙ ap (λ (x : List Row). cells x) (scatter-gather none-row cs a)
 
   put-alike : (n : Board) (a b : List Row) → Within n (cells (gather none-row cs a)) → length a ≡ length b
       → ((c : ℕ) → c < length a → names cs c ≡ true → getD a c none-row ≡ getD b c none-row) → Alike lifted (put cs n a) (put cs n b)
