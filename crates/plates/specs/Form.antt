@@ -102,7 +102,7 @@ abbrev pub count-of : Frame → Row → Row
 count-of f r = record { low = low-of f (r .low) (r .high); high = high-of f (r .low) (r .high) }
 
 abbrev pub rows-of : Frame → List Row → List Row
-rows-of f cs = slots-of f ∷ (variety-of f ∷ map (count-of f) cs)
+rows-of f cs = slots-of f ∷ variety-of f ∷ map (count-of f) cs
 
 abbrev pub frame-of : Row → Row → List Row → Frame
 frame-of s v cs = frame-at s cs (fewest s v cs) (most s v cs)

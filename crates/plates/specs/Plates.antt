@@ -27,11 +27,11 @@ present (n ∷ ns) = one n + present ns
 abbrev pub plate : List ℕ → Bool
 plate [] = true
 plate (slots ∷ []) = false
-plate (slots ∷ (variety ∷ counts)) = eqb slots (sum counts) && eqb variety (present counts)
+plate (slots ∷ variety ∷ counts) = eqb slots (sum counts) && eqb variety (present counts)
 
 -- a plate has 1 to 64 counts; any other record names no cell
 abbrev pub scope-of : Plate → List ℕ
-scope-of p = cond (ltb 0 (length (p .counts)) && leb (length (p .counts)) 64) (p .slots ∷ (p .variety ∷ p .counts)) []
+scope-of p = cond (ltb 0 (length (p .counts)) && leb (length (p .counts)) 64) (p .slots ∷ p .variety ∷ p .counts) []
 
 abbrev pub plate-rule : List ℕ → ℕ → Scoped
 plate-rule file place = exact-on (scope-of (plate-at file place)) plate

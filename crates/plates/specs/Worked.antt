@@ -1,35 +1,46 @@
--- Plates worked out from the definition of the rule: the rows of the slots, the variety and the counts, and what is left of them.
+-- Plates worked out from the definitions alone: the bytes of a record, the rows of a board, and what is left of them.
 use Prim.Native.Nat.{ℕ}
 use mathlib.Core.Path.{_≡_}
 use mathlib.Core.List.{List, [], _∷_}
 use Rattle.bounds.specs.declared.row.Row.{Row}
-use Rattle.bounds.specs.Boards.{void, cells}
-use Rattle.bounds.specs.Exact.{exact}
-use Rattle.plates.specs.Plates.{plate}
+use Rattle.bounds.specs.Boards.{Board, void, cells}
+use Rattle.plates.specs.Plates.{plates}
 
 abbrev row : ℕ → ℕ → Row
 row l h = record { low = l; high = h }
 
--- a design that is surely there is the only one
-abbrev pub one-design : List Row
-one-design = row 2 5 ∷ (row 1 1 ∷ (row 2 2 ∷ (row 0 2 ∷ (row 0 1 ∷ []))))
+-- the narrowing by the plate at the file's start
+abbrev pub narrowed-by : List ℕ → List Row → Board
+narrowed-by file = plates file (0 ∷ []) .rule 0 .narrowed
 
-abbrev pub others-left-out : List Row
-others-left-out = row 2 2 ∷ (row 1 1 ∷ (row 2 2 ∷ (row 0 0 ∷ (row 0 0 ∷ []))))
+-- the slots in cell 3, the variety in cell 4, and three counts in the cells from 0 on
+abbrev pub three-designs : List ℕ
+three-designs = 3 ∷ 0 ∷ 4 ∷ 0 ∷ 3 ∷ 0 ∷ 0 ∷ 0 ∷ 1 ∷ 0 ∷ 2 ∷ 0 ∷ []
 
-abbrev pub One-design : Type 0
-One-design = exact plate one-design ≡ cells others-left-out
+-- a design that is surely there has to be the only one
+abbrev pub one-alone : List Row
+one-alone = row 2 2 ∷ row 0 2 ∷ row 0 1 ∷ row 2 5 ∷ row 1 1 ∷ []
 
--- any two of three designs may be there
+abbrev pub others-out : List Row
+others-out = row 2 2 ∷ row 0 0 ∷ row 0 0 ∷ row 2 2 ∷ row 1 1 ∷ []
+
+abbrev pub One-alone : Type 0
+One-alone = narrowed-by three-designs one-alone ≡ cells others-out
+
+-- any two of three designs
 abbrev pub two-of-three : List Row
-two-of-three = row 3 3 ∷ (row 2 2 ∷ (row 0 2 ∷ (row 0 2 ∷ (row 0 2 ∷ []))))
+two-of-three = row 0 2 ∷ row 0 2 ∷ row 0 2 ∷ row 3 3 ∷ row 2 2 ∷ []
 
 abbrev pub Two-of-three : Type 0
-Two-of-three = exact plate two-of-three ≡ cells two-of-three
+Two-of-three = narrowed-by three-designs two-of-three ≡ cells two-of-three
 
--- two copies, of one design that has a single copy at most
+-- the slots in cell 2, the variety in cell 3, and two counts in the cells from 0 on
+abbrev pub two-designs : List ℕ
+two-designs = 2 ∷ 0 ∷ 3 ∷ 0 ∷ 2 ∷ 0 ∷ 0 ∷ 0 ∷ 1 ∷ 0 ∷ []
+
+-- two copies of one design, which has one at most
 abbrev pub too-few : List Row
-too-few = row 2 2 ∷ (row 1 1 ∷ (row 0 1 ∷ (row 0 1 ∷ [])))
+too-few = row 0 1 ∷ row 0 1 ∷ row 2 2 ∷ row 1 1 ∷ []
 
 abbrev pub Too-few : Type 0
-Too-few = exact plate too-few ≡ void
+Too-few = narrowed-by two-designs too-few ≡ void

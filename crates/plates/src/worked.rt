@@ -1,24 +1,31 @@
 // Plates worked out by the code, each with what the definition of the rule gives.
 ghost use mathlib.Core.Path.{_≡_};
 ghost use Rattle.board.specs.declared.change.Change.the-variants.{Quiet, Narrowed, Void};
-ghost use Rattle.plates.specs.Worked.{One-design, others-left-out, Two-of-three, two-of-three, Too-few, too-few};
-use crate::plate::narrow;
+ghost use Rattle.plates.specs.Worked.{One-alone, others-out, Two-of-three, two-of-three, Too-few, too-few};
+use crate::family::Plates;
+use crate::family::PlatesFamily;
 use board::change::Change;
+use board::family::Family;
 use bounds::row::Row;
 
-pub fn one_design() -> (Change, [Row; 5])
-    ensures rule { λ _. ⌜ One-design ⌝ }
+pub fn one_alone() -> (Change, [Row; 5])
+    ensures rule { λ _. ⌜ One-alone ⌝ }
     ensures change { λ r. ⌜ r .0 ≡ Narrowed ⌝ }
-    ensures rows { λ r. ⌜ r .1 ≡ others-left-out ⌝ }
+    ensures rows { λ r. ⌜ r .1 ≡ others-out ⌝ }
 {
+    let file = [3, 0, 4, 0, 3, 0, 0, 0, 1, 0, 2, 0];
     let mut rows = [
-        Row { low: 2, high: 5 },
-        Row { low: 1, high: 1 },
         Row { low: 2, high: 2 },
         Row { low: 0, high: 2 },
         Row { low: 0, high: 1 },
+        Row { low: 2, high: 5 },
+        Row { low: 1, high: 1 },
     ];
-    let change = narrow(&mut rows);
+    let plates = Plates {
+        file: &file,
+        places: &[0],
+    };
+    let change = plates.narrow(0, &mut rows);
     (change, rows)
 }
 
@@ -27,14 +34,19 @@ pub fn two_of_three() -> (Change, [Row; 5])
     ensures change { λ r. ⌜ r .0 ≡ Quiet ⌝ }
     ensures rows { λ r. ⌜ r .1 ≡ two-of-three ⌝ }
 {
+    let file = [3, 0, 4, 0, 3, 0, 0, 0, 1, 0, 2, 0];
     let mut rows = [
+        Row { low: 0, high: 2 },
+        Row { low: 0, high: 2 },
+        Row { low: 0, high: 2 },
         Row { low: 3, high: 3 },
         Row { low: 2, high: 2 },
-        Row { low: 0, high: 2 },
-        Row { low: 0, high: 2 },
-        Row { low: 0, high: 2 },
     ];
-    let change = narrow(&mut rows);
+    let plates = Plates {
+        file: &file,
+        places: &[0],
+    };
+    let change = plates.narrow(0, &mut rows);
     (change, rows)
 }
 
@@ -43,12 +55,17 @@ pub fn too_few() -> (Change, [Row; 4])
     ensures change { λ r. ⌜ r .0 ≡ Void ⌝ }
     ensures rows { λ r. ⌜ r .1 ≡ too-few ⌝ }
 {
+    let file = [2, 0, 3, 0, 2, 0, 0, 0, 1, 0];
     let mut rows = [
+        Row { low: 0, high: 1 },
+        Row { low: 0, high: 1 },
         Row { low: 2, high: 2 },
         Row { low: 1, high: 1 },
-        Row { low: 0, high: 1 },
-        Row { low: 0, high: 1 },
     ];
-    let change = narrow(&mut rows);
+    let plates = Plates {
+        file: &file,
+        places: &[0],
+    };
+    let change = plates.narrow(0, &mut rows);
     (change, rows)
 }
