@@ -69,3 +69,32 @@ pub fn too_few() -> (Change, [Row; 4])
     let change = plates.narrow(0, &mut rows);
     (change, rows)
 }
+
+#[cfg(test)]
+mod tests {
+    use super::*;
+    use board::change::ChangeDebug;
+    use board::change::ChangePartialEq;
+    use bounds::row::RowDebug;
+    use bounds::row::RowPartialEq;
+    use std::test::*;
+
+    #[test]
+    fn the_others_are_left_out() -> Result<(), Fail> {
+        let (change, rows) = one_alone();
+        check_eq(change, Change::Narrowed)?;
+        check_eq(rows[1], Row { low: 0, high: 0 })?;
+        check_eq(rows[2], Row { low: 0, high: 0 })?;
+        check_eq(rows[3], Row { low: 2, high: 2 })
+    }
+
+    #[test]
+    fn any_two_of_three() -> Result<(), Fail> {
+        check_eq(two_of_three().0, Change::Quiet)
+    }
+
+    #[test]
+    fn one_design_has_too_few() -> Result<(), Fail> {
+        check_eq(too_few().0, Change::Void)
+    }
+}
