@@ -1,10 +1,13 @@
 -- Plates worked out from the definitions alone: the bytes of a record, the rows of a board, and what is left of them.
 use Prim.Native.Nat.{ℕ}
 use mathlib.Core.Path.{_≡_}
+use mathlib.Core.Bool.{true}
 use mathlib.Core.List.{List, [], _∷_}
 use Rattle.bounds.specs.declared.row.Row.{Row}
-use Rattle.bounds.specs.Boards.{Board, void, cells}
-use Rattle.plates.specs.Plates.{plates}
+use Rattle.bounds.specs.Boards.{Board, void, cells, sound}
+use Rattle.bounds.specs.Exact.{exact}
+use Rattle.bounds.specs.Scoped.{distinct, on-board}
+use Rattle.plates.specs.Plates.{plate-rule, plates}
 
 abbrev row : ℕ → ℕ → Row
 row l h = record { low = l; high = h }
@@ -44,3 +47,8 @@ too-few = row 0 1 ∷ row 0 1 ∷ row 2 2 ∷ row 1 1 ∷ []
 
 abbrev pub Too-few : Type 0
 Too-few = narrowed-by two-designs too-few ≡ void
+
+-- On every sound board, a plate that names no cell twice is narrowed to the hull of the board's fillings that meet it.
+abbrev pub Plates-are-exact : Type 0
+Plates-are-exact = (file : List ℕ) (place : ℕ) (a : List Row) → distinct (plate-rule file place .scope) ≡ true → sound a ≡ true
+    → on-board (plate-rule file place) .narrowed a ≡ exact (on-board (plate-rule file place) .meets) a

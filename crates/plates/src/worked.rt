@@ -1,7 +1,7 @@
 // Plates worked out by the code, each with what the definition of the rule gives.
 ghost use mathlib.Core.Path.{_≡_};
 ghost use Rattle.board.specs.declared.change.Change.the-variants.{Quiet, Narrowed, Void};
-ghost use Rattle.plates.specs.Worked.{One-alone, others-out, Two-of-three, two-of-three, Too-few, too-few};
+ghost use Rattle.plates.specs.Worked.{One-alone, others-out, Two-of-three, two-of-three, Too-few, too-few, Plates-are-exact};
 use crate::family::Plates;
 use crate::family::PlatesFamily;
 use board::change::Change;
@@ -69,6 +69,11 @@ pub fn too_few() -> (Change, [Row; 4])
     let change = plates.narrow(0, &mut rows);
     (change, rows)
 }
+
+// Stands for the theorem that it ensures.
+pub fn plates_are_exact()
+    ensures { λ _. ⌜ Plates-are-exact ⌝ }
+{}
 
 #[cfg(test)]
 mod tests {
