@@ -1,0 +1,4 @@
+pub mod Tightened
+pub mod Steps
+pub mod Answered
+pub mod Kept
