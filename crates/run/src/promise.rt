@@ -5,6 +5,7 @@ use board::family::Family;
 pub fn promise<F: Family>(family: &F) -> usize
     ensures kept { λ _. ⌜ Promise (meaning (now (family .entry))) ⌝ }
     ensures accounts { λ _. ⌜ Accounts (meaning (now (family .entry))) ⌝ }
+    ensures determined { λ _. ⌜ Determined (meaning (now (family .entry))) ⌝ }
 {
     family.size()
 }
