@@ -26,24 +26,6 @@ module _ (b : Board) where
   pub rows-length : length (state b .rows) ≡ b .control .cells
   rows-length = length-take-le (b .control .cells) (vec-items (b .rows)) (omega (arith, b .rows .ok .0))
 
-  pub row-at : (c : ℕ) → c < b .control .cells → getD (state b .rows) c none-row ≡ getD (vec-items (b .rows)) c none-row
-  row-at c h = getD-take (b .control .cells) (vec-items (b .rows)) c none-row h
-
-  pub row-sound : (c : ℕ) → c < b .control .cells → low-at (vec-items (b .rows)) c ≤ high-at (vec-items (b .rows)) c
-  row-sound c h =
-      let r = row-at c h in
-      omega (arith, sound-at (state b .rows) (b .«rows_sound») c (omega (arith, rows-length)), ap (λ x. x .low) r, ap (λ x. x .high) r)
-
-  within : (c : ℕ) → c < b .control .cells → ltb c (length (state b .rows)) ≡ true
-  within c h = lt-ltb c (length (state b .rows)) (omega (arith, rows-length))
-
-  pub ask-granted : (c : ℕ) → c < b .control .cells → b .control .void ≡ false → refusal (state b) (ask c) ≡ 0
-  ask-granted c h v = cond-true _ _ _ (within c h) ∙ cond-false _ _ _ v
-
-  pub tighten-granted : (c l h : ℕ) → c < b .control .cells → l ≤ h → b .control .void ≡ false → refusal (state b) (tighten c l h) ≡ 0
-  tighten-granted c l h i o v =
-      cond-true _ _ _ (within c i) ∙ cond-true _ _ _ (le-leb l h o) ∙ cond-false _ _ _ v
-
   trials-length : length (state b .trials) ≡ b .control .depth
   trials-length = length-trials (b .control .cells) (b .control .trials) (vec-items (b .saved)) (b .control .depth)
 
@@ -62,21 +44,3 @@ module _ (b : Board) where
   pub found : (k p : ℕ) → Some p ≡ place-of (b .control .trials) k (b .control .depth)
       → let os = state b .trials in Found (b .control .cells) (b .control .trials) (vec-items (b .saved)) p (b .control .depth) (is-open k os) (older k os) (at k os)
   found k p e = some-found (b .control .cells) (b .control .trials) (vec-items (b .saved)) k p (b .control .depth) e
-
-module _ (k : Control) (a s : List Row) (c l h : ℕ) (i : c < k .cells) where
-  abbrev After : State → Row → Type 0
-  After t x = let z = state-of k a s in
-      t ≡ cond (leb (x .low) (x .high)) (with-board z false (set (take (k .cells) a) c x)) (with-board z true (take (k .cells) a))
-
-  by-row : (t : State) → After t (common (getD a c none-row) l h) → t ≡ after-tighten (state-of k a s) c l h
-  by-row t e = subst (λ (x : Row). After t (common x l h)) (sym (getD-take (k .cells) a c none-row i)) e
-
-  pub narrowed-state : k .void ≡ false → (r : Row) → r ≡ common (getD a c none-row) l h → r .low ≤ r .high
-      → state-of k (set a c r) s ≡ after-tighten (state-of k a s) c l h
-  narrowed-state v r e o = by-row _ (subst (After (state-of k (set a c r) s)) e
-      ((λ j. record { is-void = v j; rows = take-set-lt (k .cells) a c r i j; given = k .given; trials = state-of k a s .trials })
-      ∙ sym (cond-true _ _ _ (le-leb (r .low) (r .high) o))))
-
-  pub voided-state : let r = common (getD a c none-row) l h in r .high < r .low
-      → with-board (state-of k a s) true (take (k .cells) a) ≡ after-tighten (state-of k a s) c l h
-  voided-state o = by-row _ (sym (cond-false _ _ _ (lt-leb _ _ o)))

@@ -27,6 +27,7 @@ pub struct Board {
 
 mod asks;
 mod makes;
+mod reads;
 mod settles;
 mod tightens;
 mod trials;
