@@ -63,9 +63,10 @@ fn search<F: Family>(family: &F, level: &mut [Row], plan: &mut [u16], rest: &mut
         let (tried, deeper) = rest.split_at_mut(cells);
         tried.copy_from_slice(level);
         let row = level[cell];
+        let lowest = row.low;
         tried[cell] = Row {
-            low: row.low,
-            high: row.low,
+            low: lowest,
+            high: lowest,
         };
         if search(family, tried, plan, deeper) {
             return true;
