@@ -1,0 +1,46 @@
+-- What counts weigh.
+use Prim.Native.Nat.{ℕ, _≤_, _<_, _+_, _*_}
+use mathlib.Core.Path.{_≡_, refl, ap, ap₂}
+use mathlib.Core.Bool.{true}
+use mathlib.Core.List.{List, [], _∷_}
+use native.Mathlib.Omega.{arith}
+use native.Mathlib.Nat.{mul-le-mul-left}
+use lib.Dec.{leb}
+use Rattle.std.proofs.shelf.Tests.{leb-true, and-parts}
+use Rattle.bounds.specs.declared.row.Row.{Row}
+use Rattle.bounds.specs.Boards.{sound, Inside, Fills, Fixed, lows}
+use Rattle.bounds.proofs.Places.{fills-inside}
+use Rattle.bounds.proofs.Rows.{fills-lows}
+use Rattle.linear.specs.Linear.{weighed, highs}
+
+abbrev pub Positive : List ℕ → Type 0
+Positive [] = Unit {0}
+Positive (w ∷ ws) = (0 < w) × Positive ws
+
+pub sound-parts : (r : Row) (a : List Row) → sound (r ∷ a) ≡ true → (r .low ≤ r .high) × (sound a ≡ true)
+sound-parts r a h = let k = and-parts (leb (r .low) (r .high)) (sound a) h in (leb-true (r .low) (r .high) (k .0), k .1)
+
+pub fills-highs : (a : List Row) → sound a ≡ true → Fills (highs a) a
+fills-highs [] s = tt
+fills-highs (r ∷ a) s = let t = sound-parts r a s in (t .0, omega arith, fills-highs a (t .1))
+
+pub weighed-fills : (ws p : List ℕ) (a : List Row) → Fills p a → (weighed ws (lows a) ≤ weighed ws p) × (weighed ws p ≤ weighed ws (highs a))
+weighed-fills [] p a f = (omega arith, omega arith)
+weighed-fills (w ∷ ws) [] [] f = (omega arith, omega arith)
+weighed-fills (w ∷ ws) [] (r ∷ a) f = absurd f
+weighed-fills (w ∷ ws) (n ∷ p) [] f = absurd f
+weighed-fills (w ∷ ws) (n ∷ p) (r ∷ a) f =
+    let rest = weighed-fills ws p a (f .2) in
+    let low = mul-le-mul-left w (f .0) in
+    let high = mul-le-mul-left w (f .1) in (omega arith, omega arith)
+
+pub weighed-inside : (ws : List ℕ) (a b : List Row) → sound a ≡ true → Inside a b
+    → (weighed ws (lows b) ≤ weighed ws (lows a)) × (weighed ws (highs a) ≤ weighed ws (highs b))
+weighed-inside ws a b s i =
+    (weighed-fills ws _ b (fills-inside _ a b i (fills-lows a s)) .0, weighed-fills ws _ b (fills-inside _ a b i (fills-highs a s)) .1)
+
+pub fixed-ends : (a : List Row) (p : List ℕ) → Fixed a p → (lows a ≡ p) × (highs a ≡ p)
+fixed-ends [] [] f = (refl, refl)
+fixed-ends [] (n ∷ p) f = absurd f
+fixed-ends (r ∷ a) [] f = absurd f
+fixed-ends (r ∷ a) (n ∷ p) f = let rest = fixed-ends a p (f .2) in (ap₂ _∷_ (f .0) (rest .0), ap₂ _∷_ (f .1) (rest .1))
