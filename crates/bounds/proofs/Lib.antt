@@ -4,4 +4,6 @@ pub mod Members
 pub mod Hulls
 pub mod Exactly
 pub mod ExactLaws
+pub mod Scopes
+pub mod Lifted
 pub mod Beside

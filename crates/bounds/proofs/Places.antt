@@ -7,7 +7,7 @@ use native.Mathlib.Omega.{arith}
 use lib.ListN.{length, getD}
 use Rattle.std.proofs.shelf.Tests.{leb-true, le-leb, and-parts, and-from}
 use Rattle.bounds.specs.declared.row.Row.{Row}
-use Rattle.bounds.specs.Boards.{sound, Inside, Fills, none-row}
+use Rattle.bounds.specs.Boards.{sound, Inside, Fills, Fixed, none-row}
 
 abbrev pub low-at : List Row → ℕ → ℕ
 low-at a c = getD a c none-row .low
@@ -46,6 +46,29 @@ at-inside (s ∷ g) (r ∷ h) e k =
     let here = k 0 (omega arith) in
     (here .0, here .1, at-inside g h (omega arith) (λ c l. k (suc c) (omega arith)))
 
+pub inside-at : (g h : List Row) → Inside g h → (c : ℕ) → c < length g → (low-at h c ≤ low-at g c) × (high-at g c ≤ high-at h c)
+inside-at [] h i c l = absurd (omega arith)
+inside-at (s ∷ g) [] i c l = absurd i
+inside-at (s ∷ g) (r ∷ h) i zero l = (i .0, i .1)
+inside-at (s ∷ g) (r ∷ h) i (suc c) l = inside-at g h (i .2) c (omega arith)
+
+pub at-fixed : (a : List Row) (p : List ℕ) → length p ≡ length a
+    → ((c : ℕ) → c < length a → (low-at a c ≡ getD p c 0) × (high-at a c ≡ getD p c 0)) → Fixed a p
+at-fixed [] [] e h = tt
+at-fixed [] (n ∷ p) e h = omega arith
+at-fixed (r ∷ a) [] e h = omega arith
+at-fixed (r ∷ a) (n ∷ p) e h =
+    let here = h 0 (omega arith) in
+    (here .0, here .1, at-fixed a p (omega arith) (λ c k. h (suc c) (omega arith)))
+
+pub fixed-one : (a : List Row) (p q : List ℕ) → Fixed a p → Fills q a → p ≡ q
+fixed-one [] [] [] e f = refl
+fixed-one [] [] (m ∷ q) e f = absurd f
+fixed-one [] (n ∷ p) q e f = absurd e
+fixed-one (r ∷ a) [] q e f = absurd e
+fixed-one (r ∷ a) (n ∷ p) [] e f = absurd f
+fixed-one (r ∷ a) (n ∷ p) (m ∷ q) e f = let here : n ≡ m = omega arith in let rest = fixed-one a p q (e .2) (f .2) in cc
+
 pub fills-inside : (p : List ℕ) (a b : List Row) → Inside a b → Fills p a → Fills p b
 fills-inside [] [] [] h f = tt
 fills-inside [] [] (y ∷ b) h f = h
@@ -69,6 +92,10 @@ pub sound-at : (a : List Row) → sound a ≡ true → (c : ℕ) → c < length 
 sound-at [] s c k = omega arith
 sound-at (r ∷ a) s zero k = leb-true (r .low) (r .high) (and-parts _ _ s .0)
 sound-at (r ∷ a) s (suc c) k = sound-at a (and-parts _ _ s .1) c (omega arith)
+
+pub at-sound : (a : List Row) → ((c : ℕ) → c < length a → low-at a c ≤ high-at a c) → sound a ≡ true
+at-sound [] h = refl
+at-sound (r ∷ a) h = and-from _ _ (le-leb (r .low) (r .high) (h 0 (omega arith))) (at-sound a (λ c k. h (suc c) (omega arith)))
 
 pub fills-sound : (p : List ℕ) (a : List Row) → Fills p a → sound a ≡ true
 fills-sound [] [] f = refl
