@@ -10,8 +10,10 @@ use Rattle.std.proofs.shelf.Tests.{cond-both, both-ways, leb-true, and-parts}
 use Rattle.records.specs.Records.{Term, Total, total-at}
 use Rattle.bounds.specs.declared.row.Row.{Row}
 use Rattle.bounds.specs.Scoped.{Scoped, ScopedLaws}
+use Rattle.bounds.specs.Laws.{FiveLaws}
 use Rattle.bounds.proofs.Rows.{inside-all}
-use Rattle.linear.specs.Totals.{cells-of, weights-of, weights-lawful, lawful, unnamed, total-scoped, total-rule}
+use Rattle.bounds.proofs.Lifted.{listed-lawful}
+use Rattle.linear.specs.Totals.{cells-of, weights-of, weights-lawful, lawful, unnamed, total-scoped, total-rule, totals}
 use Rattle.linear.specs.Linear.{linear}
 use Rattle.linear.proofs.Weights.{Positive}
 use Rattle.linear.proofs.LinearLaws.{linear-laws}
@@ -52,3 +54,6 @@ pub total-laws : (t : Total) → ScopedLaws (total-scoped t)
 total-laws t = cond-both (lawful t) (linear (cells-of (t .terms)) (weights-of (t .terms)) (t .floor) (t .ceiling)) unnamed ScopedLaws
     (λ e. linear-laws (weights-of (t .terms)) (t .floor) (t .ceiling) (weights-positive _ (lawful-says t e .weights)) (cells-of (t .terms)) (as-many (t .terms)))
     (λ _. unnamed-laws)
+
+pub totals-lawful : (file places : List ℕ) → FiveLaws (totals file places)
+totals-lawful = listed-lawful total-rule (λ f i. total-laws (total-at f i))

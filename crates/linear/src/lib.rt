@@ -1,1 +1,2 @@
 pub mod division;
+pub mod limits;
