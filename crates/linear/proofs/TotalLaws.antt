@@ -5,7 +5,7 @@ use mathlib.Core.Bool.{Bool, true, false, cond, _&&_}
 use mathlib.Core.List.{List, [], _∷_, map}
 use native.Mathlib.Omega.{arith}
 use lib.Dec.{leb}
-use lib.ListN.{length}
+use lib.ListN.{length, length-map}
 use Rattle.std.proofs.shelf.Tests.{cond-both, both-ways, leb-true, and-parts}
 use Rattle.records.specs.Records.{Term, Total, total-at}
 use Rattle.bounds.specs.declared.row.Row.{Row}
@@ -34,8 +34,7 @@ weights-positive (w ∷ ws) e =
     (leb-true 1 w (and-parts (leb 1 w) (leb w 1000000) (k .0) .0), weights-positive ws (k .1))
 
 pub as-many : (ts : List Term) → length (weights-of ts) ≡ length (cells-of ts)
-as-many [] = refl
-as-many (t ∷ ts) = ap suc (as-many ts)
+as-many ts = length-map ts _ ∙ sym (length-map ts _)
 
 -- what a lawful record says
 pub record Lawful (t : Total) : Type 0 where

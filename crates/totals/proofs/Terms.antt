@@ -12,14 +12,6 @@ pub terms-length : (k : ℕ) (f : List ℕ) (i : ℕ) → length (terms k f i) �
 terms-length zero f i = refl
 terms-length (suc k) f i = ap suc (terms-length k f (i + 6))
 
-pub weights-length : (k : ℕ) (f : List ℕ) (i : ℕ) → length (weights-of (terms k f i)) ≡ k
-weights-length zero f i = refl
-weights-length (suc k) f i = ap suc (weights-length k f (i + 6))
-
-pub cells-length : (k : ℕ) (f : List ℕ) (i : ℕ) → length (cells-of (terms k f i)) ≡ k
-cells-length zero f i = refl
-cells-length (suc k) f i = ap suc (cells-length k f (i + 6))
-
 pub weight-at : (k : ℕ) (f : List ℕ) (i j : ℕ) → j < k → getD (weights-of (terms k f i)) j 0 ≡ number 4 f (i + 2 + 6 * j)
 weight-at zero f i j h = absurd (omega arith)
 weight-at (suc k) f i zero h = ap (number 4 f) (omega arith)

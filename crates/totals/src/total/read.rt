@@ -1,8 +1,8 @@
 // The parts of a total, read from its record.
-ghost use Prim.Native.Nat.{_<_};
+ghost use Prim.Native.Nat.{_<_, _≤_};
 ghost use mathlib.Core.Path.{_≡_};
 ghost use lib.ListN.{length, getD};
-ghost use Rattle.linear.specs.Totals.{lawful};
+ghost use Rattle.linear.specs.Totals.{lawful, weights-lawful};
 ghost use Rattle.totals.specs.Read.{record-of, weights};
 use super::Total;
 use records::bytes::u16_at;
@@ -40,5 +40,30 @@ impl Total<'_> {
         ensures { λ r. ⌜ r ≡ getD (weights (now (self .entry))) i 0 ⌝ }
     {
         u32_at(self.file, usize::from(self.place) + 20 + 6 * i)
+    }
+
+    fn weights_lawful(&self, count: usize) -> bool
+        requires all { ⌜ count ≡ length (record-of (now self) .terms) ⌝ }
+        requires few { ⌜ count ≤ 64 ⌝ }
+        ensures { λ r. ⌜ r ≡ weights-lawful (weights (now (self .entry))) ⌝ }
+    {
+        for i in 0..count {
+            let weight = self.weight(i);
+            if weight < 1 || weight > HEAVIEST {
+                return false;
+            }
+        }
+        true
+    }
+
+    pub(super) fn is_lawful(&self) -> bool
+        ensures { λ r. ⌜ r ≡ lawful (record-of (now (self .entry))) ⌝ }
+    {
+        let count = self.count();
+        count >= 1
+            && count <= MOST_CELLS
+            && self.weights_lawful(count)
+            && self.floor() <= self.ceiling()
+            && self.ceiling() <= HIGHEST_CEILING
     }
 }
