@@ -14,12 +14,13 @@ use Rattle.bounds.specs.Boards.{Board, void, cells, sound, Real, Within, Inside
 use Rattle.bounds.specs.Scoped.{ScopedLaws}
 use Rattle.bounds.proofs.Places.{fills-inside, fills-sound}
 use Rattle.bounds.proofs.Rows.{fills-lows}
-use Rattle.linear.specs.Linear.{weighed, highs, over, bounded, all-bounded, board-of, bounded-sum, sum-within, linear}
+use Rattle.linear.specs.declared.limits.Limits.{Limits}
+use Rattle.linear.specs.Linear.{weighed, highs, over, limits, bounded, all-bounded, board-of, bounded-sum, sum-within, linear}
 use Rattle.linear.proofs.Quotients.{div-weighs, div-greatest, div-mono, over-weighs, over-least, over-mono}
 use Rattle.linear.proofs.Weights.{Positive, sound-parts, fills-highs, weighed-fills, weighed-inside, fixed-ends}
 
-module _ (floor ceiling least most : ℕ) where
-  pub bounded-inside : (ws : List ℕ) (a : List Row) → length ws ≡ length a → Inside (all-bounded floor ceiling least most ws a) a
+module _ (l : Limits) where
+  pub bounded-inside : (ws : List ℕ) (a : List Row) → length ws ≡ length a → Inside (all-bounded l ws a) a
   bounded-inside [] [] e = tt
   bounded-inside [] (r ∷ a) e = omega arith
   bounded-inside (w ∷ ws) [] e = omega arith
@@ -27,40 +28,40 @@ module _ (floor ceiling least most : ℕ) where
 
   -- the cells before these weigh `under` at their lows and `above` at their highs
   pub bounded-keeps : (ws p : List ℕ) (a : List Row) → Positive ws → length ws ≡ length a → Fills p a → (under above : ℕ)
-      → least ≡ under + weighed ws (lows a) → most ≡ above + weighed ws (highs a)
-      → under + weighed ws p ≤ ceiling → floor ≤ above + weighed ws p
-      → Fills p (all-bounded floor ceiling least most ws a)
-  bounded-keeps [] [] [] pos e f under above l m c d = tt
-  bounded-keeps [] p (r ∷ a) pos e f under above l m c d = absurd (omega arith)
-  bounded-keeps [] (n ∷ p) [] pos e f under above l m c d = absurd f
-  bounded-keeps (w ∷ ws) p [] pos e f under above l m c d = absurd (omega arith)
-  bounded-keeps (w ∷ ws) [] (r ∷ a) pos e f under above l m c d = absurd f
-  bounded-keeps (w ∷ ws) (n ∷ p) (r ∷ a) pos e f under above l m c d =
+      → l .least ≡ under + weighed ws (lows a) → l .most ≡ above + weighed ws (highs a)
+      → under + weighed ws p ≤ l .ceiling → l .floor ≤ above + weighed ws p
+      → Fills p (all-bounded l ws a)
+  bounded-keeps [] [] [] pos e f under above u v c d = tt
+  bounded-keeps [] p (r ∷ a) pos e f under above u v c d = absurd (omega arith)
+  bounded-keeps [] (n ∷ p) [] pos e f under above u v c d = absurd f
+  bounded-keeps (w ∷ ws) p [] pos e f under above u v c d = absurd (omega arith)
+  bounded-keeps (w ∷ ws) [] (r ∷ a) pos e f under above u v c d = absurd f
+  bounded-keeps (w ∷ ws) (n ∷ p) (r ∷ a) pos e f under above u v c d =
       let rest = weighed-fills ws p a (f .2) in
       let low = mul-le-mul-left w (f .0) in
       let high = mul-le-mul-left w (f .1) in
-      let top = div-greatest (ceiling - (least - w * r .low)) w n (pos .0) (omega arith) in
-      let bottom = over-least (floor - (most - w * r .high)) w n (pos .0) (omega arith) in
+      let top = div-greatest (l .ceiling - (l .least - w * r .low)) w n (pos .0) (omega arith) in
+      let bottom = over-least (l .floor - (l .most - w * r .high)) w n (pos .0) (omega arith) in
       (omega arith, omega arith, bounded-keeps ws p a (pos .1) (omega arith) (f .2) (under + w * r .low) (above + w * r .high) (omega arith) (omega arith) (omega arith) (omega arith))
 
-  pub bounded-mono : (least′ most′ : ℕ) (ws : List ℕ) (a b : List Row) → Positive ws → length ws ≡ length a → sound a ≡ true → Inside a b
+  pub bounded-mono : (l′ : Limits) → l .floor ≡ l′ .floor → l .ceiling ≡ l′ .ceiling → (ws : List ℕ) (a b : List Row) → Positive ws → length ws ≡ length a → sound a ≡ true → Inside a b
       → (under above under′ above′ : ℕ)
-      → least ≡ under + weighed ws (lows a) → most ≡ above + weighed ws (highs a)
-      → least′ ≡ under′ + weighed ws (lows b) → most′ ≡ above′ + weighed ws (highs b)
+      → l .least ≡ under + weighed ws (lows a) → l .most ≡ above + weighed ws (highs a)
+      → l′ .least ≡ under′ + weighed ws (lows b) → l′ .most ≡ above′ + weighed ws (highs b)
       → under′ ≤ under → above ≤ above′
-      → Inside (all-bounded floor ceiling least most ws a) (all-bounded floor ceiling least′ most′ ws b)
-  bounded-mono least′ most′ [] a b pos e s i under above under′ above′ l m l′ m′ c d = tt
-  bounded-mono least′ most′ (w ∷ ws) [] b pos e s i under above under′ above′ l m l′ m′ c d = absurd (omega arith)
-  bounded-mono least′ most′ (w ∷ ws) (r ∷ a) [] pos e s i under above under′ above′ l m l′ m′ c d = absurd i
-  bounded-mono least′ most′ (w ∷ ws) (r ∷ a) (t ∷ b) pos e s i under above under′ above′ l m l′ m′ c d =
+      → Inside (all-bounded l ws a) (all-bounded l′ ws b)
+  bounded-mono l′ f g [] a b pos e s i under above under′ above′ u v u′ v′ c d = tt
+  bounded-mono l′ f g (w ∷ ws) [] b pos e s i under above under′ above′ u v u′ v′ c d = absurd (omega arith)
+  bounded-mono l′ f g (w ∷ ws) (r ∷ a) [] pos e s i under above under′ above′ u v u′ v′ c d = absurd i
+  bounded-mono l′ f g (w ∷ ws) (r ∷ a) (t ∷ b) pos e s i under above under′ above′ u v u′ v′ c d =
       let rest = weighed-inside ws a b (sound-parts r a s .1) (i .2) in
       let low = mul-le-mul-left w (i .0) in
       let high = mul-le-mul-left w (i .1) in
-      let top = div-mono (ceiling - (least - w * r .low)) (ceiling - (least′ - w * t .low)) w (pos .0) (omega arith) in
-      let bottom = over-mono (floor - (most′ - w * t .high)) (floor - (most - w * r .high)) w (pos .0) (omega arith) in (
+      let top = div-mono (l .ceiling - (l .least - w * r .low)) (l′ .ceiling - (l′ .least - w * t .low)) w (pos .0) (omega arith) in
+      let bottom = over-mono (l′ .floor - (l′ .most - w * t .high)) (l .floor - (l .most - w * r .high)) w (pos .0) (omega arith) in (
         omega arith,
         omega arith,
-        bounded-mono least′ most′ ws a b (pos .1) (omega arith) (sound-parts r a s .1) (i .2)
+        bounded-mono l′ f g ws a b (pos .1) (omega arith) (sound-parts r a s .1) (i .2)
             (under + w * r .low) (above + w * r .high) (under′ + w * t .low) (above′ + w * t .high) (omega arith) (omega arith) (omega arith) (omega arith) (omega arith) (omega arith),
       )
 
@@ -73,7 +74,7 @@ module _ (ws : List ℕ) (floor ceiling : ℕ) where
   hopeless a = ltb ceiling (weighed ws (lows a)) || ltb (weighed ws (highs a)) floor
 
   abbrev pub new-rows : List Row → List Row
-  new-rows a = all-bounded floor ceiling (weighed ws (lows a)) (weighed ws (highs a)) ws a
+  new-rows a = all-bounded (limits ws floor ceiling a) ws a
 
   -- the three ways to narrow
   pub by-ways : (a : List Row) (P : Board → Type 0)
@@ -91,7 +92,7 @@ module _ (ws : List ℕ) (floor ceiling : ℕ) where
     new-keeps : (a : List Row) (p : List ℕ) → length ws ≡ length a → Fills p a → sum-within ws floor ceiling p ≡ true → Fills p (new-rows a)
     new-keeps a p e f m =
         let k = and-parts _ _ m in let d = leb-true floor (weighed ws p) (k .0) in let c = leb-true (weighed ws p) ceiling (k .1) in
-        bounded-keeps floor ceiling (weighed ws (lows a)) (weighed ws (highs a)) ws p a pos e f 0 0 (omega arith) (omega arith) (omega arith) (omega arith)
+        bounded-keeps (limits ws floor ceiling a) ws p a pos e f 0 0 (omega arith) (omega arith) (omega arith) (omega arith)
 
     keeps : (a : List Row) (p : List ℕ) → length ws ≡ length a → Fills p a → sum-within ws floor ceiling p ≡ true → Lies p (bounded-sum ws floor ceiling a)
     keeps a p e f m =
@@ -103,7 +104,7 @@ module _ (ws : List ℕ) (floor ceiling : ℕ) where
     monotone : (a b : List Row) → length ws ≡ length a → sound a ≡ true → Inside a b → Within (bounded-sum ws floor ceiling a) (bounded-sum ws floor ceiling b)
     monotone a b e s i =
         let w = weighed-inside ws a b s i in
-        let j : Inside (new-rows a) (new-rows b) = bounded-mono floor ceiling _ _ _ _ ws a b pos e s i 0 0 0 0 (omega arith) (omega arith) (omega arith) (omega arith) (omega arith) (omega arith) in
+        let j : Inside (new-rows a) (new-rows b) = bounded-mono (limits ws floor ceiling a) (limits ws floor ceiling b) refl refl ws a b pos e s i 0 0 0 0 (omega arith) (omega arith) (omega arith) (omega arith) (omega arith) (omega arith) in
         by-ways a (λ x. Within x (bounded-sum ws floor ceiling b)) (λ _. tt)
         (λ c d t. by-ways b (λ y. Within (cells (new-rows a)) y) (λ h. elim (hopeless-cases b h) [ inl l ↦ omega arith | inr l ↦ omega arith ]) (λ _ _ _. j)
         (λ h. both-ways (sound (new-rows b)) h (sound-inside (new-rows a) (new-rows b) t j)))
@@ -120,7 +121,7 @@ module _ (ws : List ℕ) (floor ceiling : ℕ) where
     pub linear-laws : (scope : List ℕ) → length ws ≡ length scope → ScopedLaws (linear scope ws floor ceiling)
     linear-laws scope e = record {
       real = λ a k s. by-ways a Real (λ _. tt) (λ _ _ t. t) (λ _. tt);
-      within = λ a k s. by-ways a (λ x. Within x (cells a)) (λ _. tt) (λ _ _ _. bounded-inside floor ceiling _ _ ws a (e ∙ sym k)) (λ _. tt);
+      within = λ a k s. by-ways a (λ x. Within x (cells a)) (λ _. tt) (λ _ _ _. bounded-inside (limits ws floor ceiling a) ws a (e ∙ sym k)) (λ _. tt);
       monotone = λ a b k l s t i. monotone a b (e ∙ sym k) s i;
       keeps = λ a p k s f m. keeps a p (e ∙ sym k) f m;
       rejects = λ a p k f m. rejects a p f m;

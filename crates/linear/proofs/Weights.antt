@@ -1,17 +1,19 @@
 -- What counts weigh.
-use Prim.Native.Nat.{ℕ, _≤_, _<_, _+_, _*_}
+use Prim.Native.Nat.{ℕ, zero, suc, _≤_, _<_, _+_, _*_}
 use mathlib.Core.Path.{_≡_, refl, ap, ap₂}
 use mathlib.Core.Bool.{true}
 use mathlib.Core.List.{List, [], _∷_}
 use native.Mathlib.Omega.{arith}
 use native.Mathlib.Nat.{mul-le-mul-left}
 use lib.Dec.{leb}
+use lib.ListN.{length, getD, take}
 use Rattle.std.proofs.shelf.Tests.{leb-true, and-parts}
 use Rattle.bounds.specs.declared.row.Row.{Row}
-use Rattle.bounds.specs.Boards.{sound, Inside, Fills, Fixed, lows}
+use Rattle.bounds.specs.Boards.{sound, Inside, Fills, Fixed, lows, none-row}
 use Rattle.bounds.proofs.Places.{fills-inside}
 use Rattle.bounds.proofs.Rows.{fills-lows}
-use Rattle.linear.specs.Linear.{weighed, highs}
+use Rattle.linear.specs.declared.limits.Limits.{Limits}
+use Rattle.linear.specs.Linear.{weighed, highs, bounded, all-bounded}
 
 abbrev pub Positive : List ℕ → Type 0
 Positive [] = Unit {0}
@@ -44,3 +46,38 @@ fixed-ends [] [] f = (refl, refl)
 fixed-ends [] (n ∷ p) f = absurd f
 fixed-ends (r ∷ a) [] f = absurd f
 fixed-ends (r ∷ a) (n ∷ p) f = let rest = fixed-ends a p (f .2) in (ap₂ _∷_ (f .0) (rest .0), ap₂ _∷_ (f .1) (rest .1))
+
+-- one more cell
+pub weighed-more : (ws : List ℕ) (a : List Row) (i : ℕ) → i < length a → length ws ≡ length a
+    → (weighed ws (lows (take (suc i) a)) ≡ weighed ws (lows (take i a)) + getD ws i 0 * getD a i none-row .low)
+    × (weighed ws (highs (take (suc i) a)) ≡ weighed ws (highs (take i a)) + getD ws i 0 * getD a i none-row .high)
+weighed-more ws [] i h e = absurd (omega arith)
+weighed-more [] (r ∷ a) i h e = absurd (omega arith)
+weighed-more (w ∷ []) (r ∷ a) zero h e = (omega arith, omega arith)
+weighed-more (w ∷ (v ∷ ws)) (r ∷ a) zero h e = (omega arith, omega arith)
+weighed-more (w ∷ ws) (r ∷ a) (suc i) h e = let rest = weighed-more ws a i (omega arith) (omega arith) in (omega arith, omega arith)
+
+-- one of the cells
+pub weighed-one : (ws : List ℕ) (a : List Row) (i : ℕ) → i < length a → length ws ≡ length a
+    → (getD ws i 0 * getD a i none-row .low ≤ weighed ws (lows a)) × (getD ws i 0 * getD a i none-row .high ≤ weighed ws (highs a))
+weighed-one ws [] i h e = absurd (omega arith)
+weighed-one [] (r ∷ a) i h e = absurd (omega arith)
+weighed-one (w ∷ ws) (r ∷ a) zero h e = (omega arith, omega arith)
+weighed-one (w ∷ ws) (r ∷ a) (suc i) h e = let rest = weighed-one ws a i (omega arith) (omega arith) in (omega arith, omega arith)
+
+pub positive-at : (ws : List ℕ) (i : ℕ) → Positive ws → i < length ws → 0 < getD ws i 0
+positive-at [] i p h = absurd (omega arith)
+positive-at (w ∷ ws) zero p h = p .0
+positive-at (w ∷ ws) (suc i) p h = positive-at ws i (p .1) (omega arith)
+
+pub bounded-length : (l : Limits) (ws : List ℕ) (a : List Row) → length ws ≡ length a → length (all-bounded l ws a) ≡ length a
+bounded-length l [] a e = e
+bounded-length l (w ∷ ws) [] e = refl
+bounded-length l (w ∷ ws) (r ∷ a) e = ap suc (bounded-length l ws a (omega arith))
+
+pub bounded-at : (l : Limits) (ws : List ℕ) (a : List Row) (i : ℕ) → i < length a → length ws ≡ length a
+    → getD (all-bounded l ws a) i none-row ≡ bounded l (getD ws i 0) (getD a i none-row)
+bounded-at l ws [] i h e = absurd (omega arith)
+bounded-at l [] (r ∷ a) i h e = absurd (omega arith)
+bounded-at l (w ∷ ws) (r ∷ a) zero h e = refl
+bounded-at l (w ∷ ws) (r ∷ a) (suc i) h e = bounded-at l ws a i (omega arith) (omega arith)
