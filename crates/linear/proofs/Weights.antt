@@ -1,10 +1,11 @@
 -- What counts weigh.
 use Prim.Native.Nat.{ℕ, zero, suc, _≤_, _<_, _+_, _*_}
-use mathlib.Core.Path.{_≡_, refl, ap, ap₂}
+use mathlib.Core.Path.{_≡_, refl, sym, ap, ap₂, _∙_}
 use mathlib.Core.Bool.{true}
 use mathlib.Core.List.{List, [], _∷_}
 use native.Mathlib.Omega.{arith}
 use native.Mathlib.Nat.{mul-le-mul-left}
+use native.Mathlib.Numerals.{add-one}
 use lib.Dec.{leb}
 use lib.ListN.{length, getD, take}
 use Rattle.std.proofs.shelf.Tests.{leb-true, and-parts}
@@ -13,7 +14,7 @@ use Rattle.bounds.specs.Boards.{sound, Inside, Fills, Fixed, lows, none-row}
 use Rattle.bounds.proofs.Places.{fills-inside}
 use Rattle.bounds.proofs.Rows.{fills-lows}
 use Rattle.linear.specs.declared.limits.Limits.{Limits}
-use Rattle.linear.specs.Linear.{weighed, highs, bounded, all-bounded}
+use Rattle.linear.specs.Linear.{weighed, highs, limits, bounded, all-bounded}
 
 abbrev pub Positive : List ℕ → Type 0
 Positive [] = Unit {0}
@@ -81,3 +82,25 @@ bounded-at l ws [] i h e = absurd (omega arith)
 bounded-at l [] (r ∷ a) i h e = absurd (omega arith)
 bounded-at l (w ∷ ws) (r ∷ a) zero h e = refl
 bounded-at l (w ∷ ws) (r ∷ a) (suc i) h e = bounded-at l ws a i (omega arith) (omega arith)
+
+weighed-none : (ws : List ℕ) → weighed ws [] ≡ 0
+weighed-none [] = refl
+weighed-none (w ∷ ws) = refl
+
+same-limits : (l m : Limits) → l .floor ≡ m .floor → l .ceiling ≡ m .ceiling → l .least ≡ m .least → l .most ≡ m .most → l ≡ m
+same-limits l m a b c d = λ i. record { floor = a i; ceiling = b i; least = c i; most = d i }
+
+module _ (ws : List ℕ) (floor ceiling : ℕ) where
+  pub limits-none : limits [] floor ceiling [] ≡ limits ws floor ceiling []
+  limits-none = let e = weighed-none ws in same-limits _ _ refl refl (sym e) (sym e)
+
+  -- m is l with cell i weighed too
+  pub limits-more : (a : List Row) (i : ℕ) (l m : Limits) → i < length a → length ws ≡ length a → l ≡ limits ws floor ceiling (take i a)
+      → m .floor ≡ l .floor → m .ceiling ≡ l .ceiling
+      → m .least ≡ l .least + getD ws i 0 * getD a i none-row .low
+      → m .most ≡ l .most + getD ws i 0 * getD a i none-row .high
+      → m ≡ limits ws floor ceiling (take (i + 1) a)
+  limits-more a i l m h e v f g b c =
+      let more = weighed-more ws a i h e in
+      rw add-one (same-limits m (limits ws floor ceiling (take (suc i) a)) (f ∙ ap (λ x. x .floor) v) (g ∙ ap (λ x. x .ceiling) v)
+      (omega (arith, ap (λ x. x .least) v)) (omega (arith, ap (λ x. x .most) v)))

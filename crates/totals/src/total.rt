@@ -5,4 +5,5 @@ pub struct Total<'f> {
     pub place: u16,
 }
 
+mod narrowing;
 mod read;
