@@ -10,16 +10,18 @@ use lib.ListN.{length, getD}
 use Rattle.std.proofs.shelf.Lists.{ext-getD}
 use Rattle.std.proofs.shelf.Tests.{cond-both, cond-true, cond-false, cases-bool, both-ways, and-from, and-parts, and-cases, le-ltb}
 use Rattle.bounds.specs.declared.row.Row.{Row}
-use Rattle.bounds.specs.Boards.{Board, void, cells, sound, Real, Inside, Within, Fills, Lies, Fixed, none-row}
+use Rattle.bounds.specs.Boards.{Board, void, cells, sound, Real, Inside, Within, Fills, Lies, Fixed, lows, none-row}
 use Rattle.bounds.specs.Laws.{Rule, idle, Laws, FiveLaws, Touched, Untouched, Alike}
-use Rattle.bounds.specs.Scoped.{Scoped, fits, names, gather, scatter, put, on-board, ScopedLaws, exact-on}
+use Rattle.bounds.specs.Exact.{exact}
+use Rattle.bounds.specs.Scoped.{Scoped, fits, names, distinct, gather, scatter, put, on-board, ScopedLaws, exact-on}
 use Rattle.bounds.specs.Listed.{listed}
 use Rattle.bounds.proofs.Places.{low-at, high-at, fills-length, fills-at, at-fills, at-inside, inside-at, at-sound, sound-at, at-fixed, fixed-one}
-use Rattle.bounds.proofs.Rows.{inside-length, inside-all, cells-void, cells-same}
-use Rattle.bounds.proofs.Exactly.{exact-void}
+use Rattle.bounds.proofs.Rows.{highs, fills-lows, fills-highs, lows-at, highs-at, inside-length, inside-all, cells-void, cells-same}
+use Rattle.bounds.proofs.Hulls.{Hull, Meeting, exact-is, hull-one}
+use Rattle.bounds.proofs.Exactly.{exact-void, exact-cells, tight-inside}
 use Rattle.bounds.proofs.ExactLaws.{exact-laws}
 use Rattle.bounds.proofs.Beside.{idle-laws}
-use Rattle.bounds.proofs.Scopes.{fits-at, names-at, length-gather, gather-at, gather-same, length-scatter, scatter-both, scatter-each}
+use Rattle.bounds.proofs.Scopes.{fits-at, names-at, names-place, length-gather, gather-at, gather-same, gather-scatter, scatter-gather, length-scatter, scatter-both, scatter-each, scatter-free}
 
 -- the rows and the counts of a scope that fits
 module _ (cs : List ℕ) (a : List Row) (fit : fits cs (length a) ≡ true) where
@@ -34,7 +36,7 @@ module _ (cs : List ℕ) (a : List Row) (fit : fits cs (length a) ≡ true) wher
   own-at P all i l = let k : i < length cs = omega (arith, own-length) in
       subst (P (getD cs i 0)) (sym (gather-at none-row cs a i k)) (all (getD cs i 0) (fits-at cs (length a) fit i k))
 
-  own-sound : sound a ≡ true → sound own ≡ true
+  pub own-sound : sound a ≡ true → sound own ≡ true
   own-sound s = at-sound own (own-at (λ _ r. r .low ≤ r .high) (sound-at a s))
 
   own-inside : (b : List Row) → Inside a b → Inside own (gather none-row cs b)
@@ -83,8 +85,7 @@ module _ (cs : List ℕ) (a : List Row) (fit : fits cs (length a) ≡ true) wher
   put-frame : (n : Board) → Within n (cells own) → (g : List Row) → put cs n a ≡ cells g
       → (c : ℕ) → c < length a → names cs c ≡ false → getD a c none-row ≡ getD g c none-row
   put-frame void w g e = absurd (cells-void g (sym e))
-  put-frame (cells h) w g e = λ c l free. scatter-each none-row (λ j x. names cs j ≡ false → getD a j none-row ≡ x) cs h a (own-size h w)
-      (λ i k x. absurd (both-ways _ x (names-at cs i k))) (λ _ _ _. refl) c l free ∙ ap (λ (x : List Row). getD x c none-row) (cells-same _ g e)
+  put-frame (cells h) w g e = λ c l free. scatter-free none-row cs h a (own-size h w) c l free ∙ ap (λ (x : List Row). getD x c none-row) (cells-same _ g e)
 
 put-monotone : (cs : List ℕ) (a b : List Row) (m n : Board) → Inside a b → Within m (cells (gather none-row cs a)) → Within n (cells (gather none-row cs b))
     → Within m n → Within (put cs m a) (put cs n b)
@@ -113,6 +114,10 @@ module _ (s : Scoped) where
 
   missing : (a : List Row) → fits cs (length a) ≡ false → lifted .narrowed a ≡ cells a
   missing a f = cond-false _ _ _ f
+
+  -- a rule whose own narrowing is quiet is quiet on the board
+  pub lifted-quiet : (a : List Row) → fits cs (length a) ≡ true → result a ≡ cells (gather none-row cs a) → lifted .narrowed a ≡ cells a
+  lifted-quiet a f e = fitting a f ∙ ap (λ n. put cs n a) e ∙ ap (λ (x : List Row). cells x) (scatter-gather none-row cs a)
 
   put-alike : (n : Board) (a b : List Row) → Within n (cells (gather none-row cs a)) → length a ≡ length b
       → ((c : ℕ) → c < length a → names cs c ≡ true → getD a c none-row ≡ getD b c none-row) → Alike lifted (put cs n a) (put cs n b)
@@ -193,6 +198,93 @@ module _ (s : Scoped) where
       local-frame = lifted-frame;
       local-end = λ a b t u e same. lifted-end a b t e same;
     }
+
+-- exact on its own cells, and none named twice: exact on the board
+module _ (cs : List ℕ) (relation : List ℕ → Bool) (a : List Row) (once : distinct cs ≡ true) (t : sound a ≡ true) where
+  abbrev meets : List ℕ → Bool
+  meets = on-board (exact-on cs relation) .meets
+
+  idle-exact : fits cs (length a) ≡ false → exact meets a ≡ cells a
+  idle-exact f =
+      let all : (p : List ℕ) → Fills p a → Meeting meets a p = λ p l. (l, cond-false _ _ _ (ap (fits cs) (fills-length p a l) ∙ f)) in
+      let low = all (lows a) (fills-lows a t) in let high = all (highs a) (fills-highs a t) in
+      exact-cells meets a a .1 (record {
+        one = (lows a, low);
+        holds = λ p m. m .0;
+        lowest = λ c _. (lows a, low, lows-at a c);
+        highest = λ c _. (highs a, high, highs-at a c);
+      })
+
+  module _ (fit : fits cs (length a) ≡ true) where
+    abbrev rows : List Row
+    rows = gather none-row cs a
+
+    -- what a filling that meets the rule has in the scope
+    inward : (p : List ℕ) → Meeting meets a p → Meeting relation rows (gather 0 cs p)
+    inward p m = (own-fills cs a fit p (m .0), sym (cond-true _ _ _ (ap (fits cs) (fills-length p a (m .0)) ∙ fit)) ∙ m .1)
+
+    -- counts of the scope that meet the rule, with any counts in the other cells
+    module _ (q : List ℕ) (m : Meeting relation rows q) (rest : List ℕ) (l : Fills rest a) where
+      abbrev whole : List ℕ
+      whole = scatter cs q rest
+
+      whole-size : length q ≡ length cs
+      whole-size = fills-length q rows (m .0) ∙ length-gather none-row cs a
+
+      whole-fit : fits cs (length rest) ≡ true
+      whole-fit = ap (fits cs) (fills-length rest a l) ∙ fit
+
+      outward : Meeting meets a whole
+      outward = (
+        at-fills whole a (length-scatter cs q rest ∙ fills-length rest a l) (λ c k.
+            scatter-each 0 (λ j x. (low-at a j ≤ x) × (x ≤ high-at a j)) cs q rest whole-size
+            (λ i o. let y = gather-at none-row cs a i o in let z = fills-at q rows (m .0) i (omega (arith, length-gather none-row cs a)) in
+            (omega (arith, ap (λ r. r .low) y), omega (arith, ap (λ r. r .high) y)))
+            (λ j o. fills-at rest a l j (omega (arith, fills-length rest a l))) c (omega (arith, fills-length rest a l))),
+        cond-true _ _ _ (ap (fits cs) (length-scatter cs q rest) ∙ whole-fit) ∙ ap relation (gather-scatter 0 cs q rest once whole-fit whole-size) ∙ m .1,
+      )
+
+      whole-at : (i : ℕ) → i < length cs → getD whole (getD cs i 0) 0 ≡ getD q i 0
+      whole-at i o = sym (gather-at 0 cs whole i o) ∙ ap (λ (x : List ℕ). getD x i 0) (gather-scatter 0 cs q rest once whole-fit whole-size)
+
+    -- where a bound of each row of the scope is attained, so is that of each row of the board
+    attained : (bound : Row → ℕ) (rest : List ℕ) → Fills rest a → ((c : ℕ) → getD rest c 0 ≡ bound (getD a c none-row))
+        → (g : List Row) → length g ≡ length cs → (q : List ℕ) × Meeting relation rows q
+        → ((i : ℕ) → i < length g → (q : List ℕ) × Meeting relation rows q × (getD q i 0 ≡ bound (getD g i none-row)))
+        → (c : ℕ) → c < length (scatter cs g a) → (p : List ℕ) × Meeting meets a p × (getD p c 0 ≡ bound (getD (scatter cs g a) c none-row))
+    attained bound rest l ends g e one own c k = elim (cases-bool (names cs c)) [
+      | inl n ↦ let (i, o, x) = names-place cs c n in let (q, m, y) = own i (omega arith) in
+          let z = gather-scatter none-row cs g a once fit e in (
+            scatter cs q rest,
+            outward q m rest l,
+            subst (λ j. getD (scatter cs q rest) j 0 ≡ bound (getD (scatter cs g a) j none-row)) x
+                (whole-at q m rest l i o ∙ y ∙ ap bound (ap (λ (v : List Row). getD v i none-row) (sym z) ∙ gather-at none-row cs (scatter cs g a) i o)),
+          )
+      | inr n ↦ let (q, m) = one in (
+        scatter cs q rest,
+        outward q m rest l,
+        sym (scatter-free 0 cs q rest (whole-size q m rest l) c (omega (arith, fills-length rest a l, length-scatter cs g a)) n)
+            ∙ ends c ∙ ap bound (scatter-free none-row cs g a e c (omega (arith, length-scatter cs g a)) n),
+      )
+    ]
+
+    whole-hull : (n : Board) → Hull (Meeting relation rows) n → Hull (Meeting meets a) (put cs n a)
+    whole-hull void h = λ p m. h (gather 0 cs p) (inward p m)
+    whole-hull (cells g) h =
+        let i = tight-inside relation rows g h in
+        let e : length g ≡ length cs = inside-length g rows i ∙ length-gather none-row cs a in
+        record {
+          one = let (q, m) = h .one in (scatter cs q (lows a), outward q m (lows a) (fills-lows a t));
+          holds = λ p m. put-keeps cs a fit p (m .0) (cells g) i (h .holds (gather 0 cs p) (inward p m));
+          lowest = attained (λ r. r .low) (lows a) (fills-lows a t) (lows-at a) g e (h .one) (h .lowest);
+          highest = attained (λ r. r .high) (highs a) (fills-highs a t) (highs-at a) g e (h .one) (h .highest);
+        }
+
+  pub lifted-exact : on-board (exact-on cs relation) .narrowed a ≡ exact meets a
+  lifted-exact = elim (cases-bool (fits cs (length a))) [
+    | inl f ↦ cond-true _ _ _ f ∙ hull-one (Meeting meets a) _ _ (whole-hull f (exact relation (gather none-row cs a)) (exact-is relation (gather none-row cs a))) (exact-is meets a)
+    | inr f ↦ cond-false _ _ _ f ∙ sym (idle-exact f)
+  ]
 
 pub exact-on-laws : (scope : List ℕ) (relation : List ℕ → Bool) → ScopedLaws (exact-on scope relation)
 exact-on-laws scope relation =
