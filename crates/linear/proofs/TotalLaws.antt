@@ -1,12 +1,13 @@
 -- The laws of the totals of a job file.
-use Prim.Native.Nat.{ℕ, suc, _≤_}
+use Prim.Native.Nat.{ℕ, _<_, _≤_}
 use mathlib.Core.Path.{_≡_, refl, sym, ap, _∙_}
 use mathlib.Core.Bool.{Bool, true, false, cond, _&&_}
+use mathlib.Core.Logic.{inl, inr}
 use mathlib.Core.List.{List, [], _∷_, map}
 use native.Mathlib.Omega.{arith}
 use lib.Dec.{leb}
 use lib.ListN.{length, length-map}
-use Rattle.std.proofs.shelf.Tests.{cond-both, both-ways, leb-true, and-parts}
+use Rattle.std.proofs.shelf.Tests.{cond-both, cond-true, cond-false, cases-bool, both-ways, leb-true, and-parts}
 use Rattle.records.specs.Records.{Term, Total, total-at}
 use Rattle.bounds.specs.declared.row.Row.{Row}
 use Rattle.bounds.specs.Scoped.{Scoped, ScopedLaws}
@@ -56,3 +57,19 @@ total-laws t = cond-both (lawful t) (linear (cells-of (t .terms)) (weights-of (t
 
 pub totals-lawful : (file places : List ℕ) → FiveLaws (totals file places)
 totals-lawful = listed-lawful total-rule (λ f i. total-laws (total-at f i))
+
+abbrev pub stated : Total → Scoped
+stated t = linear (cells-of (t .terms)) (weights-of (t .terms)) (t .floor) (t .ceiling)
+
+pub total-stated : (t : Total) → lawful t ≡ true → total-scoped t ≡ stated t
+total-stated t e = cond-true (lawful t) (stated t) unnamed e
+
+pub total-unnamed : (t : Total) → lawful t ≡ false → total-scoped t ≡ unnamed
+total-unnamed t e = cond-false (lawful t) (stated t) unnamed e
+
+-- a total that names a cell is lawful
+pub named-lawful : (t : Total) (n : ℕ) → n < length (total-scoped t .scope) → lawful t ≡ true
+named-lawful t n h = elim (cases-bool (lawful t)) [
+  | inl e ↦ e
+  | inr e ↦ absurd (omega (arith, ap (λ (s : Scoped). length (s .scope)) (total-unnamed t e)))
+]

@@ -7,3 +7,4 @@ pub struct Total<'f> {
 
 mod narrowing;
 mod read;
+pub mod rule;

@@ -12,7 +12,7 @@ use bounds::row::RowPartialEq;
 use linear::limits::Limits;
 
 impl Total<'_> {
-    fn limits(&self, own: &[Row]) -> Limits
+    pub(super) fn limits(&self, own: &[Row]) -> Limits
         requires many { ⌜ length (now own) ≡ length (record-of (now self) .terms) ⌝ }
         requires few { ⌜ length (now own) ≤ 64 ⌝ }
         ensures value { λ r. ⌜ r ≡ limits-of (now (self .entry)) (now (own .entry)) ⌝ }
@@ -23,5 +23,32 @@ impl Total<'_> {
             limits = limits.weigh(self.weight(i), *row);
         }
         limits
+    }
+
+    // What the new bounds make of the rows, which are not written.
+    pub(super) fn outcome(&self, limits: Limits, own: &[Row]) -> Change
+        requires { ⌜ Open (now self) (now own) limits ⌝ }
+        ensures { λ r. ⌜ Outcome (new-rows (now (self .entry)) (now (own .entry))) (now (own .entry)) r ⌝ }
+    {
+        let mut change = Change::Quiet;
+        for (i, row) in own.iter().enumerate() {
+            let new = limits.bound(self.weight(i), *row);
+            if new.low > new.high {
+                return Change::Void;
+            }
+            if new != *row {
+                change = Change::Narrowed;
+            }
+        }
+        change
+    }
+
+    pub(super) fn write(&self, limits: Limits, own: &mut [Row])
+        requires { ⌜ Open (now self) (now own) limits ⌝ }
+        ensures { λ _. ⌜ now (own .exit) ≡ new-rows (now (self .entry)) (now (own .entry)) ⌝ }
+    {
+        for i in 0..own.len() {
+            own[i] = limits.bound(self.weight(i), own[i]);
+        }
     }
 }
