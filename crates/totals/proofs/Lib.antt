@@ -2,3 +2,4 @@ pub mod Terms
 pub mod Lawful
 pub mod Outcomes
 pub mod Opened
+pub mod Scope

@@ -3,7 +3,6 @@ ghost use Rattle.linear.specs.Totals.{total-scoped};
 ghost use Rattle.totals.specs.Read.{record-of};
 use super::Total;
 use board::change::Change;
-use board::change::ChangePartialEq;
 use bounds::row::Row;
 use records::bytes::u16_at;
 use rules::named::Named;
@@ -29,7 +28,7 @@ pub impl Named for Total<'_> as TotalNamed {
             return Change::Void;
         }
         let change = self.outcome(limits, own);
-        if change == Change::Narrowed {
+        if let Change::Narrowed = change {
             self.write(limits, own);
         }
         change

@@ -31,11 +31,12 @@ loop-i-again c =
     let within : i < length b = omega arith in
     let same = c .loop-i .inv .1 i (omega arith) in
     let new = new-at t a (c .args .limits) (c .pre) i (c .weight .result) (c .loop-i-test .taken) (c .weight .ensures) (c .bound .result)
-    (c .bound .ensures ∙ ap (bounded (c .args .limits) (c .weight .result)) same) in
-    (below-more _ i
-      (λ k h. let other : k ≢ i = omega arith in getD-set-other b i k (c .bound .result) none-row other ∙ c .loop-i .inv .0 k h)
-      (getD-set-same b i (c .bound .result) none-row within ∙ sym new),
-      λ k h. let other : k ≢ i = omega arith in getD-set-other b i k (c .bound .result) none-row other ∙ c .loop-i .inv .1 k (omega arith))
+    (c .bound .ensures ∙ ap (bounded (c .args .limits) (c .weight .result)) same) in (
+      below-more _ i
+          (λ k h. let other : k ≢ i = omega arith in getD-set-other b i k (c .bound .result) none-row other ∙ c .loop-i .inv .0 k h)
+          (getD-set-same b i (c .bound .result) none-row within ∙ sym new),
+      λ k h. let other : k ≢ i = omega arith in getD-set-other b i k (c .bound .result) none-row other ∙ c .loop-i .inv .1 k (omega arith),
+    )
 
 pub returns : need.returns
 returns c =
