@@ -1,28 +1,23 @@
 -- The rule of a total, on the rows of its scope.
 use Prim.Native.Nat.{ℕ, _<_, _≤_, _+_, _*_, _^_}
-use mathlib.Core.Path.{_≡_, refl, sym, ap, subst, _∙_}
-use mathlib.Core.Bool.{Bool, true, false, cond}
-use mathlib.Core.Logic.{_⊎_, _≢_, inl, inr}
+use mathlib.Core.Path.{_≡_, ap, subst, _∙_}
+use mathlib.Core.Bool.{true}
+use mathlib.Core.Logic.{inl, inr}
 use mathlib.Core.List.{List}
 use native.Mathlib.Omega.{arith}
 use lib.ListN.{length, getD, length-map}
-use Rattle.std.proofs.shelf.Tests.{cases-bool, cond-true, cond-false, lt-ltb, le-ltb, or-left, or-right, or-from}
+use Rattle.std.proofs.shelf.Tests.{cases-bool}
 use Rattle.records.specs.Bytes.{number}
 use Rattle.records.specs.Records as records
 use Rattle.bounds.specs.declared.row.Row.{Row}
-use Rattle.bounds.specs.Boards.{Board, void, cells, sound}
+use Rattle.bounds.specs.Boards.{cells}
 use Rattle.bounds.specs.Scoped.{Scoped}
-use Rattle.board.specs.Narrows.{Narrows}
-use Rattle.board.specs.declared.change.Change.{Change}
-use Rattle.board.specs.declared.change.Change.the-variants.{Quiet, Narrowed, Void}
 use Rattle.linear.specs.declared.limits.Limits.{Limits}
-use Rattle.linear.specs.Linear.{board-of, bounded-sum}
-use Rattle.linear.specs.Totals.{cells-of, lawful, total-scoped}
-use Rattle.linear.proofs.LinearLaws.{hopeless}
+use Rattle.linear.specs.Totals.{lawful, total-scoped}
 use Rattle.linear.proofs.TotalLaws.{Lawful, lawful-says, total-stated, total-unnamed, named-lawful}
 use Rattle.totals.specs.declared.total.Total.{Total}
-use Rattle.totals.specs.Read.{record-of, weights}
-use Rattle.totals.specs.Narrowing.{limits-of, new-rows, Open, Outcome}
+use Rattle.totals.specs.Read.{record-of}
+use Rattle.totals.specs.Narrowing.{limits-of, Open}
 use Rattle.totals.proofs.Terms.{terms-length, cell-at}
 
 pub scope-length : (t : records.Total) → lawful t ≡ true → length (total-scoped t .scope) ≡ length (t .terms)
@@ -57,16 +52,7 @@ module _ (t : Total) (a : List Row) (many : length a ≡ length (total-scoped (r
     pub all-terms : length a ≡ length (record-of t .terms)
     all-terms = many ∙ scope-length (record-of t) is-lawful
 
-    narrowing-is : total-scoped (record-of t) .narrowing a ≡ bounded-sum (weights t) (record-of t .floor) (record-of t .ceiling) a
-    narrowing-is = ap (λ (s : Scoped). s .narrowing a) (total-stated (record-of t) is-lawful)
-
     module _ (l : Limits) (value : l ≡ limits-of t a) where
-      pub hopeless-void : (l .ceiling < l .least) ⊎ (l .most < l .floor) → total-scoped (record-of t) .narrowing a ≡ void
-      hopeless-void w = narrowing-is ∙ cond-true (hopeless (weights t) (record-of t .floor) (record-of t .ceiling) a) void _ (let m = limits-of t a in elim w [
-        | inl h ↦ or-left _ _ (lt-ltb (m .ceiling) (m .least) (omega (arith, ap (λ (x : Limits). x .ceiling) value, ap (λ (x : Limits). x .least) value)))
-        | inr h ↦ or-right _ _ (lt-ltb (m .most) (m .floor) (omega (arith, ap (λ (x : Limits). x .most) value, ap (λ (x : Limits). x .floor) value)))
-      ])
-
       pub opened : l .least ≤ l .ceiling → l .floor ≤ l .most → l .most < 2 ^ 63 → Open t a l
       opened low high light = record {
         many = all-terms;
@@ -77,18 +63,3 @@ module _ (t : Total) (a : List Row) (many : length a ≡ length (total-scoped (r
         high = high;
         light = light;
       }
-
-      module _ (o : Open t a l) where
-        hopeful : total-scoped (record-of t) .narrowing a ≡ board-of (new-rows t a)
-        hopeful = let m = limits-of t a in narrowing-is ∙ cond-false (hopeless (weights t) (record-of t .floor) (record-of t .ceiling) a) void (board-of (new-rows t a)) (or-from _ _
-            (le-ltb (m .ceiling) (m .least) (omega (arith, o .low, ap (λ (x : Limits). x .ceiling) value, ap (λ (x : Limits). x .least) value)))
-            (le-ltb (m .most) (m .floor) (omega (arith, o .high, ap (λ (x : Limits). x .most) value, ap (λ (x : Limits). x .floor) value))))
-
-        pub quiet : sound a ≡ true → Outcome (new-rows t a) a Quiet → total-scoped (record-of t) .narrowing a ≡ cells a
-        quiet s e = hopeful ∙ (ap board-of e ∙ cond-true (sound a) (cells a) void s)
-
-        pub narrowed : Outcome (new-rows t a) a Narrowed → total-scoped (record-of t) .narrowing a ≡ cells (new-rows t a)
-        narrowed e = hopeful ∙ cond-true (sound (new-rows t a)) (cells (new-rows t a)) void (e .0)
-
-        pub emptied : Outcome (new-rows t a) a Void → total-scoped (record-of t) .narrowing a ≡ void
-        emptied e = hopeful ∙ cond-false (sound (new-rows t a)) (cells (new-rows t a)) void e

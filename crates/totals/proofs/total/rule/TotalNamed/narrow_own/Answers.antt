@@ -4,7 +4,7 @@ use mathlib.Core.Bool.{false}
 use lib.Dec.{eqb}
 use native.Mathlib.Omega.{arith}
 use Rattle.std.proofs.shelf.Tests.{eqb-true, eqb-false}
-use Rattle.totals.proofs.Scope.{quiet-if-empty, says, all-terms, opened, hopeless-void, quiet, narrowed, emptied}
+use Rattle.totals.proofs.Scope.{quiet-if-empty, says, all-terms, opened}
 use Rattle.totals.proofs.total.rule.TotalNamed.narrow_own.Needs as need
 
 pub returns-then-is-empty : need.returns-then-is-empty
