@@ -3,3 +3,4 @@ pub mod Weights
 pub mod LinearLaws
 pub mod TotalLaws
 pub mod Rounding
+pub mod LinearExact

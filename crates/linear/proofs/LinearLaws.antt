@@ -89,7 +89,7 @@ module _ (ws : List ℕ) (floor ceiling : ℕ) where
   hopeless-cases a h = elim (or-cases _ _ h) [ inl l ↦ inl (ltb-true _ _ l) | inr l ↦ inr (ltb-true _ _ l) ]
 
   module _ (pos : Positive ws) where
-    new-keeps : (a : List Row) (p : List ℕ) → length ws ≡ length a → Fills p a → sum-within ws floor ceiling p ≡ true → Fills p (new-rows a)
+    pub new-keeps : (a : List Row) (p : List ℕ) → length ws ≡ length a → Fills p a → sum-within ws floor ceiling p ≡ true → Fills p (new-rows a)
     new-keeps a p e f m =
         let k = and-parts _ _ m in let d = leb-true floor (weighed ws p) (k .0) in let c = leb-true (weighed ws p) ceiling (k .1) in
         bounded-keeps (limits ws floor ceiling a) ws p a pos e f 0 0 (omega arith) (omega arith) (omega arith) (omega arith)

@@ -7,7 +7,7 @@ use native.Mathlib.Omega.{arith}
 use native.Mathlib.Nat.{mul-le-mul-left}
 use native.Mathlib.Numerals.{add-one}
 use lib.Dec.{leb}
-use lib.ListN.{length, getD, take}
+use lib.ListN.{length, getD, set, take}
 use Rattle.std.proofs.shelf.Tests.{leb-true, and-parts}
 use Rattle.bounds.specs.declared.row.Row.{Row}
 use Rattle.bounds.specs.Boards.{sound, Inside, Fills, Fixed, lows, none-row}
@@ -104,3 +104,29 @@ module _ (ws : List ℕ) (floor ceiling : ℕ) where
       let more = weighed-more ws a i h e in
       rw add-one (same-limits m (limits ws floor ceiling (take (suc i) a)) (f ∙ ap (λ x. x .floor) v) (g ∙ ap (λ x. x .ceiling) v)
       (omega (arith, ap (λ x. x .least) v)) (omega (arith, ap (λ x. x .most) v)))
+
+pub highs-at : (a : List Row) (c : ℕ) → getD (highs a) c 0 ≡ getD a c none-row .high
+highs-at [] c = refl
+highs-at (r ∷ a) zero = refl
+highs-at (r ∷ a) (suc c) = highs-at a c
+
+pub fills-set : (p : List ℕ) (a : List Row) (c n : ℕ) → Fills p a → getD a c none-row .low ≤ n → n ≤ getD a c none-row .high → Fills (set p c n) a
+fills-set [] a c n f l h = f
+fills-set (m ∷ p) [] c n f l h = absurd f
+fills-set (m ∷ p) (r ∷ a) zero n f l h = (l, h, f .2)
+fills-set (m ∷ p) (r ∷ a) (suc c) n f l h = (f .0, f .1, fills-set p a c n (f .2) l h)
+
+pub weighed-set : (ws p : List ℕ) (c n : ℕ) → c < length p → length ws ≡ length p → weighed ws (set p c n) + getD ws c 0 * getD p c 0 ≡ weighed ws p + getD ws c 0 * n
+weighed-set ws [] c n h e = absurd (omega arith)
+weighed-set [] (m ∷ p) c n h e = absurd (omega arith)
+weighed-set (w ∷ ws) (m ∷ p) zero n h e = omega arith
+weighed-set (w ∷ ws) (m ∷ p) (suc c) n h e = omega (arith, weighed-set ws p c n (omega arith) (omega arith))
+
+-- the other cells weigh at least as much at their highs
+pub weighed-others : (ws : List ℕ) (a : List Row) (c : ℕ) → sound a ≡ true → c < length a → length ws ≡ length a
+    → weighed ws (lows a) + getD ws c 0 * getD a c none-row .high ≤ weighed ws (highs a) + getD ws c 0 * getD a c none-row .low
+weighed-others ws [] c s h e = absurd (omega arith)
+weighed-others [] (r ∷ a) c s h e = absurd (omega arith)
+weighed-others (w ∷ ws) (r ∷ a) zero s h e = omega (arith, weighed-fills ws (highs a) a (fills-highs a (sound-parts r a s .1)) .0)
+weighed-others (w ∷ ws) (r ∷ a) (suc c) s h e =
+    let k = sound-parts r a s in omega (arith, mul-le-mul-left w (k .0), weighed-others ws a c (k .1) (omega arith) (omega arith))
