@@ -1,2 +1,4 @@
 pub mod Bytes
 pub mod Records
+pub mod Forms
+pub mod Kinds

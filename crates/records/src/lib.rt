@@ -1,1 +1,7 @@
+pub mod body;
 pub mod bytes;
+pub mod cells;
+pub mod kind;
+pub mod plates;
+pub mod totals;
+pub mod triples;
