@@ -1,5 +1,5 @@
 // What the four kinds of body share.
-ghost use Prim.Native.Nat.{ℕ, _<_};
+ghost use Prim.Native.Nat.{ℕ, _<_, _^_};
 ghost use mathlib.Core.Path.{_≡_};
 ghost use mathlib.Core.List.{List};
 ghost use lib.ListN.{length, getD};
@@ -27,7 +27,9 @@ pub trait BodyKind {
 
     // The bytes of the whole record, with its count as written.
     fn size(body: &[u8], place: u16) -> usize
-        ensures { λ r. ⌜ r ≡ form .size (now (body .entry)) place ⌝ };
+        ensures value { λ r. ⌜ r ≡ form .size (now (body .entry)) place ⌝ }
+        ensures low_bound { λ r. ⌜ 0 < r ⌝ }
+        ensures high_bound { λ r. ⌜ r < 2 ^ 20 ⌝ };
 
     fn keeps_limits(body: &[u8], place: u16) -> bool
         ensures { λ r. ⌜ r ≡ form .limits (now (body .entry)) place ⌝ };
