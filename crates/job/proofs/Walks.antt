@@ -11,7 +11,7 @@ use Rattle.std.specs.declared.option.Option.the-variants.{Some, None}
 use Rattle.std.proofs.shelf.Lists.{take-more-set, append-nil, length-set}
 use Rattle.std.proofs.shelf.Tests.{lt-ltb, le-ltb}
 use Rattle.records.specs.Forms.{Form}
-use Rattle.records.specs.Refusals.{Refused}
+use Rattle.records.specs.declared.refused.Refused.{Refused}
 use Rattle.job.specs.Contents.{first}
 use Rattle.job.specs.Reading.{records, record-fault, record-faults, body-records}
 use Rattle.job.specs.Walked.{Passed, Walked}

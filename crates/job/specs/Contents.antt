@@ -8,14 +8,11 @@ use Rattle.std.specs.declared.option.Option.{Option}
 use Rattle.std.specs.declared.option.Option.the-variants.{Some, None}
 use Rattle.records.specs.Bytes.{number}
 use Rattle.records.specs.Forms.{between}
-use Rattle.records.specs.Refusals.{Refused, line}
+use Rattle.records.specs.Refusals.{line}
+use Rattle.records.specs.declared.refused.Refused.{Refused}
+use Rattle.job.specs.declared.entry.Entry.{Entry}
 
--- 9 bytes
-pub record Entry : Type 0 where
-  pub kind : ℕ
-  pub offset : ℕ
-  pub size : ℕ
-
+-- an entry has 9 bytes
 abbrev pub entry-at : List ℕ → ℕ → Entry
 entry-at f i = record { kind = getD f i 0; offset = number 4 f (i + 1); size = number 4 f (i + 5) }
 

@@ -8,8 +8,10 @@ use Rattle.std.specs.declared.option.Option.{Option}
 use Rattle.std.specs.declared.option.Option.the-variants.{Some, None}
 use Rattle.bounds.specs.Scoped.{fits, distinct}
 use Rattle.records.specs.Forms.{Form, cells-form, plates-form, triples-form, totals-form}
-use Rattle.records.specs.Refusals.{Refused, line}
-use Rattle.job.specs.Contents.{Entry, entries, when, first, contents-fault}
+use Rattle.records.specs.Refusals.{line}
+use Rattle.records.specs.declared.refused.Refused.{Refused}
+use Rattle.job.specs.declared.entry.Entry.{Entry}
+use Rattle.job.specs.Contents.{entries, when, first, contents-fault}
 
 -- The places of the records of a body, from one on; a record stands at the start of any body.
 abbrev pub records : Form → List ℕ → ℕ → ℕ → List ℕ

@@ -1,2 +1,5 @@
+mod contents;
+mod entry;
+pub mod fault;
 mod names;
 mod walk;

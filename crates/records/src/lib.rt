@@ -4,5 +4,6 @@ pub mod cells;
 pub mod fault;
 pub mod kind;
 pub mod plates;
+pub mod refused;
 pub mod totals;
 pub mod triples;
