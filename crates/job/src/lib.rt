@@ -1,3 +1,4 @@
+mod body;
 mod contents;
 mod entry;
 pub mod fault;
