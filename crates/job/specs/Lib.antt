@@ -3,3 +3,4 @@ pub mod Contents
 pub mod Faults
 pub mod Reading
 pub mod Walked
+pub mod Tallies

@@ -48,7 +48,7 @@ impl<'f> Body<'f> {
     pub fn walk(
         self,
         start: u16,
-        cells: usize,
+        cells: u16,
         first: usize,
         places: &mut [u16],
     ) -> Result<usize, RecordFault>

@@ -1,5 +1,5 @@
 // The contents of a job file: the number of its bodies, and an entry for each.
-ghost use Prim.Native.Nat.{_+_, _*_, _≤_};
+ghost use Prim.Native.Nat.{_+_, _*_, _≤_, _<_};
 ghost use mathlib.Core.Path.{_≡_};
 ghost use lib.ListN.{length, getD};
 ghost use Rattle.std.specs.Results.{Cases};
@@ -38,6 +38,14 @@ impl<'f> Contents<'f> {
         ensures { λ r. ⌜ r ≡ self .entry .count ⌝ }
     {
         self.count
+    }
+
+    // The entry of a number from 0 on.
+    pub fn entry(self, number: u16) -> Entry
+        requires { ⌜ number < 4 ⌝ }
+        ensures { λ r. ⌜ r ≡ entry-at (now (self .entry .file)) (1 + 9 * number) ⌝ }
+    {
+        Entry::at(self.file, 1 + 9 * number)
     }
 }
 

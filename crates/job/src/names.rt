@@ -6,11 +6,11 @@ ghost use Rattle.bounds.specs.Scoped.{fits, names, distinct};
 use records::body::BodyKind;
 
 // Whether each is one of so many cells.
-pub fn fit<K: BodyKind>(body: &[u8], place: u16, cells: usize) -> bool
+pub fn fit<K: BodyKind>(body: &[u8], place: u16, cells: u16) -> bool
     ensures { λ r. ⌜ r ≡ fits (K·BodyKind .form .names (now (body .entry)) place) cells ⌝ }
 {
     for i in 0..K::arity(body, place) {
-        if usize::from(K::name(body, place, i)) >= cells {
+        if K::name(body, place, i) >= cells {
             return false;
         }
     }

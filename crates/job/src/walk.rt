@@ -38,7 +38,7 @@ fn end_of<K: BodyKind>(body: &[u8], start: u16, at: u16) -> Result<usize, ByteFa
 }
 
 // Whether the record at a place may be the one after so many, and keeps its limits.
-fn lawful<K: BodyKind>(body: &[u8], cells: usize, number: usize, at: u16) -> bool
+fn lawful<K: BodyKind>(body: &[u8], cells: u16, number: usize, at: u16) -> bool
     ensures { λ r. ⌜ r ≡ (ltb number 1024 && (K·BodyKind .form .limits (now (body .entry)) at && fits (K·BodyKind .form .names (now (body .entry)) at) cells)) ⌝ }
 {
     number < MOST && K::keeps_limits(body, at) && fit::<K>(body, at, cells)
@@ -48,7 +48,7 @@ fn lawful<K: BodyKind>(body: &[u8], cells: usize, number: usize, at: u16) -> boo
 fn check<K: BodyKind>(
     body: &[u8],
     start: u16,
-    cells: usize,
+    cells: u16,
     number: usize,
     at: u16,
 ) -> Result<usize, RecordFault>
@@ -73,7 +73,7 @@ fn check<K: BodyKind>(
 pub fn walk<K: BodyKind>(
     body: &[u8],
     start: u16,
-    cells: usize,
+    cells: u16,
     first: usize,
     places: &mut [u16],
 ) -> Result<usize, RecordFault>
