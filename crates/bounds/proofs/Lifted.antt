@@ -1,7 +1,7 @@
 -- A rule over the cells that it names, on a whole board: its laws there from those of its own narrowing.
 use Prim.Native.Nat.{ℕ, _≤_, _<_, min}
 use mathlib.Core.Path.{_≡_, refl, sym, ap, _∙_, subst}
-use mathlib.Core.Bool.{Bool, true, false, cond, _&&_}
+use mathlib.Core.Bool.{Bool, true, false}
 use mathlib.Core.Logic.{inl, inr}
 use mathlib.Core.List.{List}
 use native.Mathlib.Omega.{arith}
@@ -22,6 +22,9 @@ use Rattle.bounds.proofs.Exactly.{exact-void, exact-cells, tight-inside}
 use Rattle.bounds.proofs.ExactLaws.{exact-laws}
 use Rattle.bounds.proofs.Beside.{idle-laws}
 use Rattle.bounds.proofs.Scopes.{fits-at, names-at, names-place, length-gather, gather-at, gather-same, gather-scatter, scatter-gather, length-scatter, scatter-both, scatter-each, scatter-free}
+
+own-size : (cs : List ℕ) (a g : List Row) → Inside g (gather none-row cs a) → length g ≡ length cs
+own-size cs a g i = inside-length g (gather none-row cs a) i ∙ length-gather none-row cs a
 
 -- the rows and the counts of a scope that fits
 module _ (cs : List ℕ) (a : List Row) (fit : fits cs (length a) ≡ true) where
@@ -57,35 +60,32 @@ module _ (cs : List ℕ) (a : List Row) (fit : fits cs (length a) ≡ true) wher
       let z = one c i (names-at cs j k) in let v = fills-at p a f c i in
       (omega (arith, ap (λ r. r .low) y), omega (arith, ap (λ r. r .high) y)))
 
-  own-size : (g : List Row) → Inside g own → length g ≡ length cs
-  own-size g i = inside-length g own i ∙ own-length
-
   -- what a narrowing of the scope's rows gives, written back
   put-real : (n : Board) → Within n (cells own) → sound a ≡ true → Real n → Real (put cs n a)
   put-real void w s r = tt
   put-real (cells g) w s r = at-sound (scatter cs g a) (λ c l.
-      scatter-each none-row (λ _ x. x .low ≤ x .high) cs g a (own-size g w)
-      (λ i k. sound-at g r i (omega (arith, own-size g w))) (sound-at a s) c (omega (arith, length-scatter cs g a)))
+      scatter-each none-row (λ _ x. x .low ≤ x .high) cs g a (own-size cs a g w)
+      (λ i k. sound-at g r i (omega (arith, own-size cs a g w))) (sound-at a s) c (omega (arith, length-scatter cs g a)))
 
   put-within : (n : Board) → Within n (cells own) → Within (put cs n a) (cells a)
   put-within void w = tt
   put-within (cells g) w = at-inside (scatter cs g a) a (length-scatter cs g a) (λ c l.
-      scatter-each none-row (λ j x. (low-at a j ≤ x .low) × (x .high ≤ high-at a j)) cs g a (own-size g w)
-      (λ i k. let y = gather-at none-row cs a i k in let z = inside-at g own w i (omega (arith, own-size g w)) in
+      scatter-each none-row (λ j x. (low-at a j ≤ x .low) × (x .high ≤ high-at a j)) cs g a (own-size cs a g w)
+      (λ i k. let y = gather-at none-row cs a i k in let z = inside-at g own w i (omega (arith, own-size cs a g w)) in
       (omega (arith, ap (λ r. r .low) y), omega (arith, ap (λ r. r .high) y)))
       (λ j k. (omega arith, omega arith)) c (omega (arith, length-scatter cs g a)))
 
   put-keeps : (p : List ℕ) → Fills p a → (n : Board) → Within n (cells own) → Lies (gather 0 cs p) n → Lies p (put cs n a)
   put-keeps p f void w h = h
   put-keeps p f (cells g) w h = at-fills p (scatter cs g a) (fills-length p a f ∙ sym (length-scatter cs g a)) (λ c l.
-      scatter-each none-row (λ j x. (x .low ≤ getD p j 0) × (getD p j 0 ≤ x .high)) cs g a (own-size g w)
-      (λ i k. let y = gather-at 0 cs p i k in let z = fills-at (gather 0 cs p) g h i (omega (arith, own-size g w)) in (omega arith, omega arith))
+      scatter-each none-row (λ j x. (x .low ≤ getD p j 0) × (getD p j 0 ≤ x .high)) cs g a (own-size cs a g w)
+      (λ i k. let y = gather-at 0 cs p i k in let z = fills-at (gather 0 cs p) g h i (omega (arith, own-size cs a g w)) in (omega arith, omega arith))
       (fills-at p a f) c (omega (arith, length-scatter cs g a)))
 
   put-frame : (n : Board) → Within n (cells own) → (g : List Row) → put cs n a ≡ cells g
       → (c : ℕ) → c < length a → names cs c ≡ false → getD a c none-row ≡ getD g c none-row
   put-frame void w g e = absurd (cells-void g (sym e))
-  put-frame (cells h) w g e = λ c l free. scatter-free none-row cs h a (own-size h w) c l free ∙ ap (λ (x : List Row). getD x c none-row) (cells-same _ g e)
+  put-frame (cells h) w g e = λ c l free. scatter-free none-row cs h a (own-size cs a h w) c l free ∙ ap (λ (x : List Row). getD x c none-row) (cells-same _ g e)
 
 put-monotone : (cs : List ℕ) (a b : List Row) (m n : Board) → Inside a b → Within m (cells (gather none-row cs a)) → Within n (cells (gather none-row cs b))
     → Within m n → Within (put cs m a) (put cs n b)
@@ -93,10 +93,10 @@ put-monotone cs a b void n i u v w = tt
 put-monotone cs a b (cells g) void i u v w = w
 put-monotone cs a b (cells g) (cells h) i u v w =
     let e = inside-length a b i in let x = length-scatter cs g a in let y = length-scatter cs h b in
-    let k : length g ≡ length cs = inside-length _ _ u ∙ length-gather none-row cs a in
+    let k = own-size cs a g u in
     at-inside (scatter cs g a) (scatter cs h b) (omega arith) (λ c l.
     scatter-both none-row none-row (λ _ p q. (q .low ≤ p .low) × (p .high ≤ q .high)) cs g h a b k
-    (inside-length _ _ v ∙ length-gather none-row cs b) e (λ j o. inside-at g h w j (omega arith)) (inside-at a b i) c (omega arith))
+    (own-size cs b h v) e (λ j o. inside-at g h w j (omega arith)) (inside-at a b i) c (omega arith))
 
 module _ (s : Scoped) where
   abbrev lifted : Rule
@@ -123,7 +123,7 @@ module _ (s : Scoped) where
       → ((c : ℕ) → c < length a → names cs c ≡ true → getD a c none-row ≡ getD b c none-row) → Alike lifted (put cs n a) (put cs n b)
   put-alike void a b w e same = tt
   put-alike (cells g) a b w e same = λ c l t.
-      let k : length g ≡ length cs = inside-length _ _ w ∙ length-gather none-row cs a in
+      let k = own-size cs a g w in
       scatter-both none-row none-row (λ j x y. names cs j ≡ true → x ≡ y) cs g g a b k k e (λ _ _ _. refl) same
       c (omega (arith, length-scatter cs g a)) (and-parts (fits cs _) (names cs c) t .1)
 
@@ -272,7 +272,7 @@ module _ (cs : List ℕ) (relation : List ℕ → Bool) (a : List Row) (once : d
     whole-hull void h = λ p m. h (gather 0 cs p) (inward p m)
     whole-hull (cells g) h =
         let i = tight-inside relation rows g h in
-        let e : length g ≡ length cs = inside-length g rows i ∙ length-gather none-row cs a in
+        let e = own-size cs a g i in
         record {
           one = let (q, m) = h .one in (scatter cs q (lows a), outward q m (lows a) (fills-lows a t));
           holds = λ p m. put-keeps cs a fit p (m .0) (cells g) i (h .holds (gather 0 cs p) (inward p m));

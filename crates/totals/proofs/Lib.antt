@@ -1,0 +1,5 @@
+pub mod Terms
+pub mod Lawful
+pub mod Outcomes
+pub mod Opened
+pub mod Scope
