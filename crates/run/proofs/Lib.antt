@@ -5,3 +5,4 @@ pub mod Kept
 pub mod Paths
 pub mod Firsts
 pub mod Determined
+pub mod Makes
