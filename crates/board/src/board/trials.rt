@@ -1,8 +1,10 @@
 // What opens a trial and what closes it.
 ghost use Prim.Native.Nat.{_≤_, _+_, _*_};
 ghost use mathlib.Core.Path.{_≡_};
+ghost use mathlib.Core.Bool.{false};
 ghost use lib.ListN.{length};
 ghost use Rattle.std.specs.Of.Vec.{vec-items};
+ghost use Rattle.std.specs.Results.{isOk};
 ghost use Rattle.board.specs.Held.{event-of-open, event-of-keep, event-of-drop, Did, Frame, Outside, Pasted, Places, slot};
 use super::Board;
 use crate::control::MOST_TRIALS;
@@ -68,6 +70,7 @@ impl Board {
         ensures frame { λ _. ⌜ Frame (now (self .entry)) (now (self .exit)) ⌝ }
         ensures outside { λ _. ⌜ Outside (now (self .entry)) (now (self .exit)) (now (self .entry) .control .depth) ⌝ }
         ensures rows { λ _. ⌜ vec-items (now (self .exit) .rows) ≡ vec-items (now (self .entry) .rows) ⌝ }
+        ensures refused { λ r. ⌜ (isOk r ≡ false → vec-items (now (self .exit) .saved) ≡ vec-items (now (self .entry) .saved)) ⌝ }
     {
         let depth = self.control.depth;
         if depth >= MOST_TRIALS {

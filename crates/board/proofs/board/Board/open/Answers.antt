@@ -10,6 +10,7 @@ use borrow.Author.Count.{below-more}
 use Rattle.std.specs.Changed.{refilled}
 use Rattle.std.specs.Of.Vec.{vec-items, vec-len}
 use Rattle.std.proofs.shelf.Lists.{length-take, getD-set-same, getD-set-other}
+use Rattle.std.proofs.shelf.Tests.{true≢false}
 use Rattle.bounds.specs.declared.row.Row.{Row}
 use Rattle.board.specs.declared.control.Trial.{Trial}
 use Rattle.board.specs.declared.board.Board.{Board}
@@ -27,6 +28,7 @@ returns-then-self c = record {
   frame = record { cells = refl; past = refl; rows-room = refl; saved-room = refl };
   outside = record { before = refl; after = refl };
   rows = refl;
+  refused = λ _. refl;
 }
 
 pub paste-requires : need.paste-requires
@@ -80,4 +82,5 @@ returns c =
       frame = record { cells = refl; past = refl; rows-room = refl; saved-room = refl };
       outside = record { before = p .before; after = subst (λ m. drop m (vec-items (refilled (b .saved) (c .paste .last .to))) ≡ drop m (vec-items (b .saved))) (next-place n d rows l) (p .after) };
       rows = refl;
+      refused = λ e. absurd (true≢false e);
     }

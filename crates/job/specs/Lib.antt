@@ -1,0 +1,6 @@
+pub mod Bodies
+pub mod Contents
+pub mod Faults
+pub mod Reading
+pub mod Walked
+pub mod Tallies

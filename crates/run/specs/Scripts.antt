@@ -1,0 +1,84 @@
+-- A script's calls, with their answers, as events.
+use Prim.Native.Nat.{ℕ, _*_}
+use mathlib.Core.Path.{_≡_}
+use mathlib.Core.Bool.{true}
+use mathlib.Core.List.{List, [], _∷_, _++_}
+use lib.ListN.{length, drop}
+use Rattle.std.specs.Of.Vec.{vec-items}
+use Rattle.std.specs.declared.vec.Vec.{Vec}
+use Rattle.std.specs.declared.alloc.Global.{Global}
+use Rattle.std.specs.declared.alloc.AllocError.{AllocError}
+use Rattle.std.specs.declared.result.Result.{Result}
+use Rattle.std.specs.declared.result.Result.the-variants.{Ok, Err}
+use Rattle.bounds.specs.declared.row.Row.{Row}
+use Rattle.bounds.specs.Boards.{sound}
+use Rattle.bounds.specs.Laws.{Meaning}
+use Rattle.board.specs.declared.board.Board.{Board}
+use Rattle.board.specs.declared.refusal.Refusal.{Refusal}
+use Rattle.board.specs.Calls as calls
+use Rattle.board.specs.Calls.{Event, refused, tightened, opened, kept, dropped, asked, settled, emptied, found, none-found, Does}
+use Rattle.board.specs.Held.{number, state, Frame}
+use Rattle.run.specs.declared.call.Call.{Call}
+use Rattle.run.specs.declared.call.Call.the-variants as call
+use Rattle.run.specs.declared.answer.Answer.{Answer}
+use Rattle.run.specs.declared.answer.Answer.the-variants as answer
+use Rattle.run.specs.Runs.{Run, then, tally, call-in}
+use Rattle.run.specs.Promise.{Kept}
+
+-- the call, where so many counts of plan memory and rows of scratch are lent
+abbrev pub call-of : ℕ → ℕ → Call → calls.Call
+call-of pr sr (call.Tighten c l h) = calls.tighten c l h
+call-of pr sr call.Open = calls.opening
+call-of pr sr (call.Keep k) = calls.keep k
+call-of pr sr (call.Drop k) = calls.drop k
+call-of pr sr (call.Ask c) = calls.ask c
+call-of pr sr call.Settle = calls.settle
+call-of pr sr call.Seek = calls.seek pr sr
+
+-- what is answered at the event
+abbrev pub Answers : Event → Answer → Type 0
+Answers (refused c n) a = (e : Refusal) × (n ≡ number e) × (a ≡ answer.Refused e)
+Answers (tightened c l h) a = a ≡ answer.Granted
+Answers (opened k) a = a ≡ answer.Slip k
+Answers (kept k) a = a ≡ answer.Granted
+Answers (dropped k) a = a ≡ answer.Granted
+Answers (asked c l h) a = a ≡ answer.Cell c l h
+Answers (settled n) a = a ≡ answer.Settled n
+Answers (emptied n) a = a ≡ answer.Void n
+Answers (found pr sr p) a = (v : Vec ℕ Global) × (vec-items v ≡ p) × (a ≡ answer.Plan v)
+Answers (none-found pr sr) a = a ≡ answer.NoPlan
+
+-- the plan memory after the event: a plan that is found is written over its front
+abbrev pub plan-after : Event → List ℕ → List ℕ
+plan-after (found pr sr p) q = p ++ drop (length p) q
+plan-after (refused c n) q = q
+plan-after (tightened c l h) q = q
+plan-after (opened k) q = q
+plan-after (kept k) q = q
+plan-after (dropped k) q = q
+plan-after (asked c l h) q = q
+plan-after (settled n) q = q
+plan-after (emptied n) q = q
+plan-after (none-found pr sr) q = q
+
+-- memory past the board's rows, and past the room for sixteen trials, stays
+pub record Stays (b c : Board) : Type 0 where
+  pub frame : Frame b c
+  pub past-trials : drop (16 * b .control .cells) (vec-items (c .saved)) ≡ drop (16 * b .control .cells) (vec-items (b .saved))
+
+-- The call was made on the board b and left c, and plan memory went from p to q; sr rows of scratch were lent.
+pub record Made (m : Meaning) (b c : Board) (p q : List ℕ) (sr : ℕ) (x : Call) (a : Answer) : Type 0 where
+  pub event : Event
+  pub asks : call-in event ≡ call-of (length p) sr x
+  pub answers : Answers event a
+  pub does : Does m (state b) event (state c)
+  pub stays : Stays b c
+  pub plan : q ≡ plan-after event p
+  -- the promise is kept after it, whatever run led to the board
+  pub keeps : (job : List Row) → sound job ≡ true → (es : List Event) (earlier : Run m job es (state b))
+      → Kept m job (event ∷ es) (state c) (tally (then earlier event (state c) does))
+
+-- the call was made and answered, or for want of memory it was not, and nothing changed; scratch went from s to t
+abbrev pub Steps : Meaning → Board → Board → List ℕ → List ℕ → List Row → List Row → Call → Result Answer AllocError → Type 0
+Steps m b c p q s t x (Ok a) = Made m b c p q (length s) x a
+Steps m b c p q s t x (Err e) = (c ≡ b) × (q ≡ p) × (t ≡ s)

@@ -1,0 +1,4 @@
+pub mod answer;
+pub mod call;
+pub mod promise;
+pub mod step;
