@@ -1,4 +1,5 @@
 // Scripts of calls on a board.
+ghost use Rattle.run.specs.Promise.{Promise, Accounts, Determined};
 ghost use Rattle.run.specs.Scripts.{Runs};
 use crate::answer::Answer;
 use crate::call::Call;
@@ -18,7 +19,10 @@ pub fn run<F: Family>(
     plan: &mut [u16],
     scratch: &mut [Row],
 ) -> Result<Vec<Answer>, Halted>
-    ensures { λ r. ⌜ Runs (meaning (now (family .entry))) (now (board .entry)) (now (board .exit)) (now (plan .entry)) (now (plan .exit)) (now (scratch .entry)) (now (script .entry)) r ⌝ }
+    ensures runs { λ r. ⌜ Runs (meaning (now (family .entry))) (now (board .entry)) (now (board .exit)) (now (plan .entry)) (now (plan .exit)) (now (scratch .entry)) (now (script .entry)) r ⌝ }
+    ensures promise { λ _. ⌜ Promise (meaning (now (family .entry))) ⌝ }
+    ensures accounts { λ _. ⌜ Accounts (meaning (now (family .entry))) ⌝ }
+    ensures determined { λ _. ⌜ Determined (meaning (now (family .entry))) ⌝ }
 {
     let mut answers = Vec::new(heap);
     for call in script {

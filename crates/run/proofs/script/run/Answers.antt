@@ -1,12 +1,15 @@
 use mathlib.Core.Path.{_≡_, sym, _∙_, ap, subst}
 use mathlib.Core.List.{List, [], _∷_, _++_}
 use native.Mathlib.Omega.{arith}
+use borrow.Author.Needs.{needs}
 use lib.ListN.{length, take}
 use Rattle.std.specs.Of.Vec.{vec-items}
 use Rattle.std.proofs.shelf.Lists.{take-all}
 use Rattle.run.specs.declared.call.Call.{Call}
 use Rattle.run.specs.declared.answer.Answer.{Answer}
 use Rattle.run.specs.Scripts.{Ran}
+use Rattle.run.proofs.Kept.{kept, accounts}
+use Rattle.run.proofs.Determined.{determined}
 use Rattle.run.proofs.Scripted.{ran-none, ran-next}
 use Rattle.run.proofs.script.run.Needs as need
 
@@ -31,6 +34,22 @@ loop-call-again g c =
 pub returns : need.returns
 returns g c =
     let m = g .F·Family .meaning (c .args .family .now) in
+    let laws = g .F·Family .lawful (c .args .family .now) in
     let xs = c .args .script .now in
-    subst (λ (calls : List Call). Ran m (c .args .board .now) (c .loop-call .board) (c .args .plan .now) (c .loop-call .plan) (length (c .args .scratch .now)) calls (vec-items (c .loop-call .answers)))
-    (take-all (c .loop-call .call-index) xs (omega arith)) (c .loop-call .inv .0)
+    record {
+      runs = subst (λ (calls : List Call). Ran m (c .args .board .now) (c .loop-call .board) (c .args .plan .now) (c .loop-call .plan) (length (c .args .scratch .now)) calls (vec-items (c .loop-call .answers)))
+          (take-all (c .loop-call .call-index) xs (omega arith)) (c .loop-call .inv .0);
+      promise = kept m laws;
+      accounts = accounts m laws;
+      determined = determined m;
+    }
+
+pub returns-then-is-err : need.returns-then-is-err
+returns-then-is-err g c =
+    let laws = g .F·Family .lawful (c .args .family .now) in
+    record { runs = search needs; promise = kept _ laws; accounts = accounts _ laws; determined = determined _ }
+
+pub returns-in-Err : need.returns-in-Err
+returns-in-Err g c =
+    let laws = g .F·Family .lawful (c .args .family .now) in
+    record { runs = search needs; promise = kept _ laws; accounts = accounts _ laws; determined = determined _ }
