@@ -23,7 +23,7 @@ use Rattle.run.specs.declared.call.Call.the-variants as call
 use Rattle.run.specs.declared.answer.Answer.{Answer}
 use Rattle.run.specs.declared.answer.Answer.the-variants as answer
 use Rattle.run.specs.declared.halted.Halted.{Halted}
-use Rattle.run.specs.Runs.{Leads, Run, then, joined, tally, call-in}
+use Rattle.run.specs.Runs.{Leads, Run, then, joined, call-in}
 use Rattle.run.specs.Promise.{Kept, KeptThroughout}
 
 -- the call, where so many counts of plan memory and rows of scratch are lent
@@ -77,7 +77,7 @@ pub record Made (m : Meaning) (b c : Board) (p q : List ℕ) (sr : ℕ) (x : Cal
   pub plan : q ≡ plan-after event p
   -- the promise is kept after it, whatever run led to the board
   pub keeps : (job : List Row) → sound job ≡ true → (es : List Event) (earlier : Run m job es (state b))
-      → Kept m job (event ∷ es) (state c) (tally (then earlier event (state c) does))
+      → Kept m job (event ∷ es) (state c) (then earlier event (state c) does)
 
 -- the call was made and answered, or for want of memory it was not, and nothing changed; scratch went from s to t
 abbrev pub Steps : Meaning → Board → Board → List ℕ → List ℕ → List Row → List Row → Call → Result Answer AllocError → Type 0
