@@ -19,7 +19,7 @@ pub fn run<F: Family>(
     plan: &mut [u16],
     scratch: &mut [Row],
 ) -> Result<Vec<Answer>, Halted>
-    ensures runs { λ r. ⌜ Runs (meaning (now (family .entry))) (now (board .entry)) (now (board .exit)) (now (plan .entry)) (now (plan .exit)) (now (scratch .entry)) (now (script .entry)) r ⌝ }
+    ensures runs { λ r. ⌜ Runs (meaning (now (family .entry))) (now (board .entry)) (now (board .exit)) (now (plan .entry)) (now (plan .exit)) (now (scratch .entry)) (now (scratch .exit)) (now (script .entry)) r ⌝ }
     ensures promise { λ _. ⌜ Promise (meaning (now (family .entry))) ⌝ }
     ensures accounts { λ _. ⌜ Accounts (meaning (now (family .entry))) ⌝ }
     ensures determined { λ _. ⌜ Determined (meaning (now (family .entry))) ⌝ }
