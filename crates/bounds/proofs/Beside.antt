@@ -1,14 +1,14 @@
 -- Two lawful families side by side are a lawful family.
-use Prim.Native.Nat.{ℕ, _≤_, _-_}
+use Prim.Native.Nat.{_-_}
 use mathlib.Core.Path.{_≡_, refl, ap}
-use mathlib.Core.Bool.{cond, true, false}
+use mathlib.Core.Bool.{true}
 use mathlib.Core.List.{List}
 use native.Mathlib.Omega.{arith}
 use lib.Dec.{ltb}
 use lib.ListN.{getD}
 use Rattle.std.proofs.shelf.Tests.{cond-both, both-ways, ltb-true, ltb-false}
 use Rattle.bounds.specs.declared.row.Row.{Row}
-use Rattle.bounds.specs.Boards.{cells, sound, none-row}
+use Rattle.bounds.specs.Boards.{none-row}
 use Rattle.bounds.specs.Laws.{Rule, Meaning, idle, Laws, FiveLaws}
 use Rattle.bounds.specs.Beside.{beside}
 use Rattle.bounds.proofs.Rows.{inside-all, cells-void, cells-same}

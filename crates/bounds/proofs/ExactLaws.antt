@@ -10,11 +10,11 @@ use Rattle.std.specs.Iters.{counting}
 use Rattle.std.proofs.shelf.Counted.{length-map-counting, getD-map-counting}
 use Rattle.std.proofs.shelf.Tests.{cond-both, cond-true, cond-false, cases-bool, both-ways}
 use Rattle.bounds.specs.declared.row.Row.{Row}
-use Rattle.bounds.specs.Boards.{Board, void, cells, sound, Real, Fills, none-row}
+use Rattle.bounds.specs.Boards.{Board, void, cells, sound, Fills, none-row}
 use Rattle.bounds.specs.Laws.{Rule, Laws, Alike}
-use Rattle.bounds.specs.Exact.{exact, Local, exactly}
-use Rattle.bounds.proofs.Places.{low-at, high-at, same-row, fills-length, fills-at, fills-sound, at-fills, fills-inside, sound-at}
-use Rattle.bounds.proofs.Hulls.{Tight, Hull, Meeting, exact-is, narrowest, hull-holds}
+use Rattle.bounds.specs.Exact.{Local, exactly}
+use Rattle.bounds.proofs.Places.{low-at, high-at, same-row, fills-length, fills-at, at-fills, fills-inside, sound-at}
+use Rattle.bounds.proofs.Hulls.{Tight, Hull, Meeting, exact-is, narrowest, hull-holds, hull-real}
 use Rattle.bounds.proofs.Exactly.{exact-void, exact-cells, tight-length}
 
 -- the touched rows of a are those of b
@@ -115,10 +115,6 @@ module _ (meets : List ℕ → Bool) (touches : ℕ → ℕ → Bool) (local : L
       let m = fills-length p a f in let n = fills-length q a g in
       local p q (omega arith) (λ c h t.
       omega (arith, fills-at p a f c (omega arith), fills-at q a g c (omega arith), fixed c (omega arith) (at-length _ _ c m t)))
-
-hull-real : (M : List ℕ → Type 0) (b : Board) → Hull M b → Real b
-hull-real M void h = tt
-hull-real M (cells g) t = fills-sound _ g (t .holds _ (t .one .1))
 
 pub exact-laws : (meets : List ℕ → Bool) (touches : ℕ → ℕ → Bool) → Local meets touches → Laws (exactly meets touches)
 exact-laws meets touches local =

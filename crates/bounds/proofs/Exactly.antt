@@ -11,7 +11,7 @@ use Rattle.bounds.specs.Boards.{void, cells, sound, Inside, Fills}
 use Rattle.bounds.specs.Exact.{fillings, exact}
 use Rattle.bounds.proofs.Places.{low-at, high-at, fills-length, fills-sound}
 use Rattle.bounds.proofs.Members.{in-fillings, fillings-has}
-use Rattle.bounds.proofs.Hulls.{Tight, Hull, Meeting, exact-is, narrowest, hull-one}
+use Rattle.bounds.proofs.Hulls.{Tight, Hull, Meeting, exact-is, narrowest, hull-one, hull-real}
 
 pub fillings-are : (p : List ℕ) (a : List Row) → Fills p a ↔ List·Memᴰ p (fillings a)
 fillings-are p a = (fillings-has p a, in-fillings p a)
@@ -40,7 +40,7 @@ module _ (meets : List ℕ → Bool) (a : List Row) where
 
   module _ (g : List Row) (t : Tight (Meeting meets a) g) where
     pub tight-sound : sound g ≡ true
-    tight-sound = fills-sound _ g (t .holds _ (t .one .1))
+    tight-sound = hull-real (Meeting meets a) (cells g) t
 
     pub tight-inside : Inside g a
     tight-inside = narrowest (Meeting meets a) (cells g) (cells a) t (λ p m. m .0)

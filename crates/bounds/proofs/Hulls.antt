@@ -1,16 +1,17 @@
 -- The hull of fillings: the narrowest board that holds them, each bound attained.
 use Prim.Native.Nat.{ℕ, zero, suc, _<_, min, max}
 use mathlib.Core.Path.{_≡_, refl, sym, ap, _∙_, subst}
-use mathlib.Core.Bool.{Bool, true}
+use mathlib.Core.Bool.{Bool}
 use mathlib.Core.Logic.{inl, inr}
 use mathlib.Core.List.{List, [], _∷_, List·Memᴰ, List·Memᴰ·head, List·Memᴰ·tail, List·Memᴰ·not-nil, List·Memᴰ·cases-cons}
 use native.Mathlib.Omega.{arith}
 use lib.ListN.{length, getD}
 use Rattle.std.proofs.shelf.Tests.{cases-lt}
 use Rattle.bounds.specs.declared.row.Row.{Row}
-use Rattle.bounds.specs.Boards.{Board, void, cells, Within, Fills, Lies}
+use Rattle.bounds.specs.Boards.{Board, void, cells, Real, Within, Fills, Lies}
 use Rattle.bounds.specs.Exact.{fillings, only, point, join, widen, hull, exact}
-use Rattle.bounds.proofs.Places.{low-at, high-at, fills-length, fills-at, at-inside, inside-both}
+pub use Rattle.bounds.specs.Theorems.{Meeting}
+use Rattle.bounds.proofs.Places.{low-at, high-at, fills-length, fills-at, fills-sound, at-inside, inside-both}
 use Rattle.bounds.proofs.Members.{in-fillings, fillings-has, in-only, only-has}
 
 -- the rows hold every filling of M, of which there is one, and each bound is the count of one
@@ -96,10 +97,6 @@ hull-is : (n : ℕ) (ps : List (List ℕ)) → ((p : List ℕ) → Among ps p �
 hull-is n [] same = λ p m. List·Memᴰ·not-nil m
 hull-is n (p ∷ ps) same = widen-hull p ps (hull ps) (λ q m. omega (arith, same p (List·Memᴰ·head refl), same q (List·Memᴰ·tail m))) (hull-is n ps (λ q m. same q (List·Memᴰ·tail m)))
 
--- the fillings in a that meet the rule
-abbrev pub Meeting : (List ℕ → Bool) → List Row → List ℕ → Type 0
-Meeting meets a p = Fills p a × (meets p ≡ true)
-
 pub exact-is : (meets : List ℕ → Bool) (a : List Row) → Hull (Meeting meets a) (exact meets a)
 exact-is meets a =
     let meeting : (p : List ℕ) → Among (only meets (fillings a)) p → Meeting meets a p =
@@ -120,6 +117,10 @@ narrowest M (cells g) (cells k) t h =
 pub hull-holds : (M : List ℕ → Type 0) (b : Board) → Hull M b → (p : List ℕ) → M p → Lies p b
 hull-holds M void t p m = t p m
 hull-holds M (cells g) t p m = t .holds p m
+
+pub hull-real : (M : List ℕ → Type 0) (b : Board) → Hull M b → Real b
+hull-real M void h = tt
+hull-real M (cells g) t = fills-sound _ g (t .holds _ (t .one .1))
 
 within-both : (b c : Board) → Within b c → Within c b → b ≡ c
 within-both void void i j = refl

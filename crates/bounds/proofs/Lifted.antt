@@ -1,7 +1,7 @@
 -- A rule over the cells that it names, on a whole board: its laws there from those of its own narrowing.
 use Prim.Native.Nat.{ℕ, _≤_, _<_, min}
 use mathlib.Core.Path.{_≡_, refl, sym, ap, _∙_, subst}
-use mathlib.Core.Bool.{Bool, true, false, cond, _&&_}
+use mathlib.Core.Bool.{Bool, true, false}
 use mathlib.Core.Logic.{inl, inr}
 use mathlib.Core.List.{List}
 use native.Mathlib.Omega.{arith}
@@ -10,16 +10,21 @@ use lib.ListN.{length, getD}
 use Rattle.std.proofs.shelf.Lists.{ext-getD}
 use Rattle.std.proofs.shelf.Tests.{cond-both, cond-true, cond-false, cases-bool, both-ways, and-from, and-parts, and-cases, le-ltb}
 use Rattle.bounds.specs.declared.row.Row.{Row}
-use Rattle.bounds.specs.Boards.{Board, void, cells, sound, Real, Inside, Within, Fills, Lies, Fixed, none-row}
+use Rattle.bounds.specs.Boards.{Board, void, cells, sound, Real, Inside, Within, Fills, Lies, Fixed, lows, highs, none-row}
 use Rattle.bounds.specs.Laws.{Rule, idle, Laws, FiveLaws, Touched, Untouched, Alike}
-use Rattle.bounds.specs.Scoped.{Scoped, fits, names, gather, scatter, put, on-board, ScopedLaws, exact-on}
-use Rattle.bounds.specs.Listed.{listed}
+use Rattle.bounds.specs.Exact.{exact}
+use Rattle.bounds.specs.Scoped.{Scoped, fits, names, distinct, gather, scatter, put, on-board, ScopedLaws, exact-on}
+use Rattle.bounds.specs.Listed.{numbered, listed}
 use Rattle.bounds.proofs.Places.{low-at, high-at, fills-length, fills-at, at-fills, at-inside, inside-at, at-sound, sound-at, at-fixed, fixed-one}
-use Rattle.bounds.proofs.Rows.{inside-length, inside-all, cells-void, cells-same}
-use Rattle.bounds.proofs.Exactly.{exact-void}
+use Rattle.bounds.proofs.Rows.{fills-lows, fills-highs, lows-at, highs-at, inside-length, inside-all, cells-void, cells-same}
+use Rattle.bounds.proofs.Hulls.{Hull, Meeting, exact-is, hull-one}
+use Rattle.bounds.proofs.Exactly.{exact-void, exact-cells, tight-inside}
 use Rattle.bounds.proofs.ExactLaws.{exact-laws}
 use Rattle.bounds.proofs.Beside.{idle-laws}
-use Rattle.bounds.proofs.Scopes.{fits-at, names-at, length-gather, gather-at, gather-same, scatter-gather, length-scatter, scatter-both, scatter-each, scatter-free}
+use Rattle.bounds.proofs.Scopes.{fits-at, names-at, names-place, length-gather, gather-at, gather-same, gather-scatter, scatter-gather, length-scatter, scatter-both, scatter-each, scatter-free}
+
+own-size : (cs : List ℕ) (a g : List Row) → Inside g (gather none-row cs a) → length g ≡ length cs
+own-size cs a g i = inside-length g (gather none-row cs a) i ∙ length-gather none-row cs a
 
 -- the rows and the counts of a scope that fits
 module _ (cs : List ℕ) (a : List Row) (fit : fits cs (length a) ≡ true) where
@@ -55,35 +60,32 @@ module _ (cs : List ℕ) (a : List Row) (fit : fits cs (length a) ≡ true) wher
       let z = one c i (names-at cs j k) in let v = fills-at p a f c i in
       (omega (arith, ap (λ r. r .low) y), omega (arith, ap (λ r. r .high) y)))
 
-  own-size : (g : List Row) → Inside g own → length g ≡ length cs
-  own-size g i = inside-length g own i ∙ own-length
-
   -- what a narrowing of the scope's rows gives, written back
   put-real : (n : Board) → Within n (cells own) → sound a ≡ true → Real n → Real (put cs n a)
   put-real void w s r = tt
   put-real (cells g) w s r = at-sound (scatter cs g a) (λ c l.
-      scatter-each none-row (λ _ x. x .low ≤ x .high) cs g a (own-size g w)
-      (λ i k. sound-at g r i (omega (arith, own-size g w))) (sound-at a s) c (omega (arith, length-scatter cs g a)))
+      scatter-each none-row (λ _ x. x .low ≤ x .high) cs g a (own-size cs a g w)
+      (λ i k. sound-at g r i (omega (arith, own-size cs a g w))) (sound-at a s) c (omega (arith, length-scatter cs g a)))
 
   put-within : (n : Board) → Within n (cells own) → Within (put cs n a) (cells a)
   put-within void w = tt
   put-within (cells g) w = at-inside (scatter cs g a) a (length-scatter cs g a) (λ c l.
-      scatter-each none-row (λ j x. (low-at a j ≤ x .low) × (x .high ≤ high-at a j)) cs g a (own-size g w)
-      (λ i k. let y = gather-at none-row cs a i k in let z = inside-at g own w i (omega (arith, own-size g w)) in
+      scatter-each none-row (λ j x. (low-at a j ≤ x .low) × (x .high ≤ high-at a j)) cs g a (own-size cs a g w)
+      (λ i k. let y = gather-at none-row cs a i k in let z = inside-at g own w i (omega (arith, own-size cs a g w)) in
       (omega (arith, ap (λ r. r .low) y), omega (arith, ap (λ r. r .high) y)))
       (λ j k. (omega arith, omega arith)) c (omega (arith, length-scatter cs g a)))
 
   put-keeps : (p : List ℕ) → Fills p a → (n : Board) → Within n (cells own) → Lies (gather 0 cs p) n → Lies p (put cs n a)
   put-keeps p f void w h = h
   put-keeps p f (cells g) w h = at-fills p (scatter cs g a) (fills-length p a f ∙ sym (length-scatter cs g a)) (λ c l.
-      scatter-each none-row (λ j x. (x .low ≤ getD p j 0) × (getD p j 0 ≤ x .high)) cs g a (own-size g w)
-      (λ i k. let y = gather-at 0 cs p i k in let z = fills-at (gather 0 cs p) g h i (omega (arith, own-size g w)) in (omega arith, omega arith))
+      scatter-each none-row (λ j x. (x .low ≤ getD p j 0) × (getD p j 0 ≤ x .high)) cs g a (own-size cs a g w)
+      (λ i k. let y = gather-at 0 cs p i k in let z = fills-at (gather 0 cs p) g h i (omega (arith, own-size cs a g w)) in (omega arith, omega arith))
       (fills-at p a f) c (omega (arith, length-scatter cs g a)))
 
   put-frame : (n : Board) → Within n (cells own) → (g : List Row) → put cs n a ≡ cells g
       → (c : ℕ) → c < length a → names cs c ≡ false → getD a c none-row ≡ getD g c none-row
   put-frame void w g e = absurd (cells-void g (sym e))
-  put-frame (cells h) w g e = λ c l free. scatter-free none-row cs h a (own-size h w) c l free ∙ ap (λ (x : List Row). getD x c none-row) (cells-same _ g e)
+  put-frame (cells h) w g e = λ c l free. scatter-free none-row cs h a (own-size cs a h w) c l free ∙ ap (λ (x : List Row). getD x c none-row) (cells-same _ g e)
 
 put-monotone : (cs : List ℕ) (a b : List Row) (m n : Board) → Inside a b → Within m (cells (gather none-row cs a)) → Within n (cells (gather none-row cs b))
     → Within m n → Within (put cs m a) (put cs n b)
@@ -91,10 +93,10 @@ put-monotone cs a b void n i u v w = tt
 put-monotone cs a b (cells g) void i u v w = w
 put-monotone cs a b (cells g) (cells h) i u v w =
     let e = inside-length a b i in let x = length-scatter cs g a in let y = length-scatter cs h b in
-    let k : length g ≡ length cs = inside-length _ _ u ∙ length-gather none-row cs a in
+    let k = own-size cs a g u in
     at-inside (scatter cs g a) (scatter cs h b) (omega arith) (λ c l.
     scatter-both none-row none-row (λ _ p q. (q .low ≤ p .low) × (p .high ≤ q .high)) cs g h a b k
-    (inside-length _ _ v ∙ length-gather none-row cs b) e (λ j o. inside-at g h w j (omega arith)) (inside-at a b i) c (omega arith))
+    (own-size cs b h v) e (λ j o. inside-at g h w j (omega arith)) (inside-at a b i) c (omega arith))
 
 module _ (s : Scoped) where
   abbrev lifted : Rule
@@ -121,7 +123,7 @@ module _ (s : Scoped) where
       → ((c : ℕ) → c < length a → names cs c ≡ true → getD a c none-row ≡ getD b c none-row) → Alike lifted (put cs n a) (put cs n b)
   put-alike void a b w e same = tt
   put-alike (cells g) a b w e same = λ c l t.
-      let k : length g ≡ length cs = inside-length _ _ w ∙ length-gather none-row cs a in
+      let k = own-size cs a g w in
       scatter-both none-row none-row (λ j x y. names cs j ≡ true → x ≡ y) cs g g a b k k e (λ _ _ _. refl) same
       c (omega (arith, length-scatter cs g a)) (and-parts (fits cs _) (names cs c) t .1)
 
@@ -197,6 +199,93 @@ module _ (s : Scoped) where
       local-end = λ a b t u e same. lifted-end a b t e same;
     }
 
+-- exact on its own cells, and none named twice: exact on the board
+module _ (cs : List ℕ) (relation : List ℕ → Bool) (a : List Row) (once : distinct cs ≡ true) (t : sound a ≡ true) where
+  abbrev meets : List ℕ → Bool
+  meets = on-board (exact-on cs relation) .meets
+
+  idle-exact : fits cs (length a) ≡ false → exact meets a ≡ cells a
+  idle-exact f =
+      let all : (p : List ℕ) → Fills p a → Meeting meets a p = λ p l. (l, cond-false _ _ _ (ap (fits cs) (fills-length p a l) ∙ f)) in
+      let low = all (lows a) (fills-lows a t) in let high = all (highs a) (fills-highs a t) in
+      exact-cells meets a a .1 (record {
+        one = (lows a, low);
+        holds = λ p m. m .0;
+        lowest = λ c _. (lows a, low, lows-at a c);
+        highest = λ c _. (highs a, high, highs-at a c);
+      })
+
+  module _ (fit : fits cs (length a) ≡ true) where
+    abbrev rows : List Row
+    rows = gather none-row cs a
+
+    -- what a filling that meets the rule has in the scope
+    inward : (p : List ℕ) → Meeting meets a p → Meeting relation rows (gather 0 cs p)
+    inward p m = (own-fills cs a fit p (m .0), sym (cond-true _ _ _ (ap (fits cs) (fills-length p a (m .0)) ∙ fit)) ∙ m .1)
+
+    -- counts of the scope that meet the rule, with any counts in the other cells
+    module _ (q : List ℕ) (m : Meeting relation rows q) (rest : List ℕ) (l : Fills rest a) where
+      abbrev whole : List ℕ
+      whole = scatter cs q rest
+
+      whole-size : length q ≡ length cs
+      whole-size = fills-length q rows (m .0) ∙ length-gather none-row cs a
+
+      whole-fit : fits cs (length rest) ≡ true
+      whole-fit = ap (fits cs) (fills-length rest a l) ∙ fit
+
+      outward : Meeting meets a whole
+      outward = (
+        at-fills whole a (length-scatter cs q rest ∙ fills-length rest a l) (λ c k.
+            scatter-each 0 (λ j x. (low-at a j ≤ x) × (x ≤ high-at a j)) cs q rest whole-size
+            (λ i o. let y = gather-at none-row cs a i o in let z = fills-at q rows (m .0) i (omega (arith, length-gather none-row cs a)) in
+            (omega (arith, ap (λ r. r .low) y), omega (arith, ap (λ r. r .high) y)))
+            (λ j o. fills-at rest a l j (omega (arith, fills-length rest a l))) c (omega (arith, fills-length rest a l))),
+        cond-true _ _ _ (ap (fits cs) (length-scatter cs q rest) ∙ whole-fit) ∙ ap relation (gather-scatter 0 cs q rest once whole-fit whole-size) ∙ m .1,
+      )
+
+      whole-at : (i : ℕ) → i < length cs → getD whole (getD cs i 0) 0 ≡ getD q i 0
+      whole-at i o = sym (gather-at 0 cs whole i o) ∙ ap (λ (x : List ℕ). getD x i 0) (gather-scatter 0 cs q rest once whole-fit whole-size)
+
+    -- where a bound of each row of the scope is attained, so is that of each row of the board
+    attained : (bound : Row → ℕ) (rest : List ℕ) → Fills rest a → ((c : ℕ) → getD rest c 0 ≡ bound (getD a c none-row))
+        → (g : List Row) → length g ≡ length cs → (q : List ℕ) × Meeting relation rows q
+        → ((i : ℕ) → i < length g → (q : List ℕ) × Meeting relation rows q × (getD q i 0 ≡ bound (getD g i none-row)))
+        → (c : ℕ) → c < length (scatter cs g a) → (p : List ℕ) × Meeting meets a p × (getD p c 0 ≡ bound (getD (scatter cs g a) c none-row))
+    attained bound rest l ends g e one own c k = elim (cases-bool (names cs c)) [
+      | inl n ↦ let (i, o, x) = names-place cs c n in let (q, m, y) = own i (omega arith) in
+          let z = gather-scatter none-row cs g a once fit e in (
+            scatter cs q rest,
+            outward q m rest l,
+            subst (λ j. getD (scatter cs q rest) j 0 ≡ bound (getD (scatter cs g a) j none-row)) x
+                (whole-at q m rest l i o ∙ y ∙ ap bound (ap (λ (v : List Row). getD v i none-row) (sym z) ∙ gather-at none-row cs (scatter cs g a) i o)),
+          )
+      | inr n ↦ let (q, m) = one in (
+        scatter cs q rest,
+        outward q m rest l,
+        sym (scatter-free 0 cs q rest (whole-size q m rest l) c (omega (arith, fills-length rest a l, length-scatter cs g a)) n)
+            ∙ ends c ∙ ap bound (scatter-free none-row cs g a e c (omega (arith, length-scatter cs g a)) n),
+      )
+    ]
+
+    whole-hull : (n : Board) → Hull (Meeting relation rows) n → Hull (Meeting meets a) (put cs n a)
+    whole-hull void h = λ p m. h (gather 0 cs p) (inward p m)
+    whole-hull (cells g) h =
+        let i = tight-inside relation rows g h in
+        let e = own-size cs a g i in
+        record {
+          one = let (q, m) = h .one in (scatter cs q (lows a), outward q m (lows a) (fills-lows a t));
+          holds = λ p m. put-keeps cs a fit p (m .0) (cells g) i (h .holds (gather 0 cs p) (inward p m));
+          lowest = attained (λ r. r .low) (lows a) (fills-lows a t) (lows-at a) g e (h .one) (h .lowest);
+          highest = attained (λ r. r .high) (highs a) (fills-highs a t) (highs-at a) g e (h .one) (h .highest);
+        }
+
+  pub lifted-exact : on-board (exact-on cs relation) .narrowed a ≡ exact meets a
+  lifted-exact = elim (cases-bool (fits cs (length a))) [
+    | inl f ↦ cond-true _ _ _ f ∙ hull-one (Meeting meets a) _ _ (whole-hull f (exact relation (gather none-row cs a)) (exact-is relation (gather none-row cs a))) (exact-is meets a)
+    | inr f ↦ cond-false _ _ _ f ∙ sym (idle-exact f)
+  ]
+
 pub exact-on-laws : (scope : List ℕ) (relation : List ℕ → Bool) → ScopedLaws (exact-on scope relation)
 exact-on-laws scope relation =
     let law = exact-laws relation (λ _ _. true) (λ p q e same. ap relation (ext-getD 0 p q e (λ c l. same c l refl))) in
@@ -208,12 +297,15 @@ exact-on-laws scope relation =
       rejects = λ a p e f n. exact-void relation a .1 (λ q m. both-ways (relation p) n (ap relation (fixed-one a p q f (m .0)) ∙ m .1));
     }
 
-pub listed-lawful : (at : List ℕ → ℕ → Scoped) → ((f : List ℕ) (i : ℕ) → ScopedLaws (at f i)) → (file places : List ℕ) → FiveLaws (listed at file places)
-listed-lawful at laws file places =
-    let n = min 4096 (length places) in
+pub numbered-lawful : (size : ℕ) (at : ℕ → Scoped) → ((r : ℕ) → ScopedLaws (at r)) → FiveLaws (numbered size at)
+numbered-lawful size at laws =
+    let n = min 4096 size in
     record {
       few = omega arith;
-      each = λ r. cond-both (ltb r n) _ _ (λ (u : Rule). Laws u)
-          (λ _. lifted-laws (at file (getD places r 0)) (laws file (getD places r 0))) (λ _. idle-laws);
+      each = λ r. cond-both (ltb r n) _ _ (λ (u : Rule). Laws u) (λ _. lifted-laws (at r) (laws r)) (λ _. idle-laws);
       beyond = λ r l. cond-false (ltb r n) _ idle (le-ltb r n l);
     }
+
+pub listed-lawful : (at : List ℕ → ℕ → Scoped) → ((f : List ℕ) (i : ℕ) → ScopedLaws (at f i)) → (file places : List ℕ) → FiveLaws (listed at file places)
+listed-lawful at laws file places =
+    numbered-lawful (length places) (λ r. at file (getD places r 0)) (λ r. laws file (getD places r 0))

@@ -5,6 +5,7 @@ use mathlib.Core.Bool.{true}
 use mathlib.Core.List.{List, [], _∷_}
 use native.Mathlib.Omega.{arith}
 use lib.ListN.{length, getD}
+use Rattle.std.proofs.shelf.Lists.{ext-getD}
 use Rattle.std.proofs.shelf.Tests.{leb-true, le-leb, and-parts, and-from}
 use Rattle.bounds.specs.declared.row.Row.{Row}
 use Rattle.bounds.specs.Boards.{sound, Inside, Fills, Fixed, none-row}
@@ -104,9 +105,4 @@ fills-sound (n ∷ p) [] f = absurd f
 fills-sound (n ∷ p) (r ∷ a) f = and-from _ _ (le-leb (r .low) (r .high) (omega arith)) (fills-sound p a (f .2))
 
 pub same-rows : (g h : List Row) → length g ≡ length h → ((c : ℕ) → c < length h → getD g c none-row ≡ getD h c none-row) → g ≡ h
-same-rows [] [] e k = refl
-same-rows [] (r ∷ h) e k = absurd (omega arith)
-same-rows (s ∷ g) [] e k = absurd (omega arith)
-same-rows (s ∷ g) (r ∷ h) e k =
-    let here = k 0 (omega arith) in
-    let rest = same-rows g h (omega arith) (λ c l. k (suc c) (omega arith)) in cc
+same-rows g h e k = ext-getD none-row g h e (λ c l. k c (omega arith))

@@ -8,24 +8,30 @@ use lib.Dec.{leb}
 use lib.ListN.{length, getD, set, take}
 use Rattle.std.proofs.shelf.Tests.{and-parts, and-from, leb-true, le-leb}
 use Rattle.bounds.specs.declared.row.Row.{Row}
-use Rattle.bounds.specs.Boards.{Board, void, cells, sound, Inside, Fills, spread, width, lows, none-row}
+use Rattle.bounds.specs.Boards.{Board, void, cells, sound, Inside, Fills, spread, width, lows, highs, none-row}
 use Rattle.bounds.specs.Cells.{common}
 use Rattle.bounds.proofs.Places.{same-row}
 
-abbrev pub highs : List Row → List ℕ
-highs [] = []
-highs (r ∷ rs) = r .high ∷ highs rs
-
-sound-parts : (r : Row) (rs : List Row) → sound (r ∷ rs) ≡ true → (r .low ≤ r .high) × (sound rs ≡ true)
+pub sound-parts : (r : Row) (rs : List Row) → sound (r ∷ rs) ≡ true → (r .low ≤ r .high) × (sound rs ≡ true)
 sound-parts r rs h = let k = and-parts (leb (r .low) (r .high)) (sound rs) h in (leb-true (r .low) (r .high) (k .0), k .1)
 
 pub fills-lows : (a : List Row) → sound a ≡ true → Fills (lows a) a
 fills-lows [] h = tt
 fills-lows (r ∷ rs) h = let k = sound-parts r rs h in (omega arith, k .0, fills-lows rs (k .1))
 
-fills-highs : (a : List Row) → sound a ≡ true → Fills (highs a) a
+pub fills-highs : (a : List Row) → sound a ≡ true → Fills (highs a) a
 fills-highs [] h = tt
 fills-highs (r ∷ rs) h = let k = sound-parts r rs h in (k .0, omega arith, fills-highs rs (k .1))
+
+pub lows-at : (a : List Row) (c : ℕ) → getD (lows a) c 0 ≡ getD a c none-row .low
+lows-at [] c = refl
+lows-at (r ∷ a) zero = refl
+lows-at (r ∷ a) (suc c) = lows-at a c
+
+pub highs-at : (a : List Row) (c : ℕ) → getD (highs a) c 0 ≡ getD a c none-row .high
+highs-at [] c = refl
+highs-at (r ∷ a) zero = refl
+highs-at (r ∷ a) (suc c) = highs-at a c
 
 inside-ends : (a b : List Row) → Fills (lows a) b → Fills (highs a) b → Inside a b
 inside-ends [] [] l h = tt

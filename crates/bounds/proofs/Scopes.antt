@@ -1,15 +1,15 @@
 -- Gathering what stands at the cells of a scope, and scattering it back, place by place.
 use Prim.Native.Nat.{ℕ, zero, suc, _+_, _≤_, _<_}
 use mathlib.Core.Path.{_≡_, refl, sym, ap, _∙_, subst}
-use mathlib.Core.Bool.{Bool, true, false, cond}
+use mathlib.Core.Bool.{true, false, not}
 use mathlib.Core.Logic.{_≢_, inl, inr}
 use mathlib.Core.List.{List, [], _∷_}
 use native.Mathlib.Omega.{arith}
 use lib.Dec.{ltb, eqb}
 use lib.ListN.{length, getD, set, drop}
 use Rattle.std.proofs.shelf.Lists.{length-set, set-getD, getD-set-same, getD-set-other, ext-getD, drop-more, at-drop-all}
-use Rattle.std.proofs.shelf.Tests.{ltb-true, lt-ltb, eq-eqb, ne-eqb, cond-true, cond-false, cond-both, cases-eq, cases-bool, both-ways, eqb-true, and-parts, and-from}
-use Rattle.bounds.specs.Scoped.{fits, names, gather, scatter}
+use Rattle.std.proofs.shelf.Tests.{ltb-true, lt-ltb, eq-eqb, ne-eqb, cond-true, cond-false, cond-both, cases-eq, cases-bool, both-ways, eqb-true, not-true, and-parts, and-from}
+use Rattle.bounds.specs.Scoped.{fits, names, distinct, gather, scatter}
 
 pub fits-at : (cs : List ℕ) (n : ℕ) → fits cs n ≡ true → (i : ℕ) → i < length cs → getD cs i 0 < n
 fits-at [] n f i l = absurd (omega arith)
@@ -30,7 +30,7 @@ pub not-names : (cs : List ℕ) (c : ℕ) → ((i : ℕ) → i < length cs → g
 not-names [] c h = refl
 not-names (x ∷ cs) c h = cond-false (eqb x c) true (names cs c) (ne-eqb x c (h 0 (omega arith))) ∙ not-names cs c (λ i l. h (suc i) (omega arith))
 
-names-place : (cs : List ℕ) (c : ℕ) → names cs c ≡ true → (i : ℕ) × (i < length cs) × (getD cs i 0 ≡ c)
+pub names-place : (cs : List ℕ) (c : ℕ) → names cs c ≡ true → (i : ℕ) × (i < length cs) × (getD cs i 0 ≡ c)
 names-place [] c n = absurd (both-ways false refl n)
 names-place (x ∷ cs) c n = elim (cases-bool (eqb x c)) [
   | inl e ↦ (0, omega arith, eqb-true x c e)
@@ -115,6 +115,18 @@ module _ {A : Type 0} (d : A) (cs : List ℕ) (g xs : List A) (size : length g �
         (sym (gather-at d cs xs i k) ∙ ap (λ (x : List A). getD x i d) h ∙ gather-at d cs (scatter cs g xs) i k)
     | inr n ↦ scatter-free c l n
   ])
+
+-- what is written to cells that stand once in the scope is found there
+pub gather-scatter : {A : Type 0} (d : A) (cs : List ℕ) (g xs : List A) → distinct cs ≡ true → fits cs (length xs) ≡ true → length g ≡ length cs
+    → gather d cs (scatter cs g xs) ≡ g
+gather-scatter d [] [] xs once fit e = refl
+gather-scatter d [] (x ∷ g) xs once fit e = absurd (omega arith)
+gather-scatter d (c ∷ cs) [] xs once fit e = absurd (omega arith)
+gather-scatter d (c ∷ cs) (x ∷ g) xs once fit e =
+    let o = and-parts (not (names cs c)) (distinct cs) once in let f = and-parts (ltb c (length xs)) (fits cs (length xs)) fit in
+    let k = length-set xs c x in let l = ltb-true c (length xs) (f .0) in
+    let here = sym (scatter-free d cs g (set xs c x) (omega arith) c (omega arith) (not-true (names cs c) (o .0))) ∙ getD-set-same xs c x d l in
+    let rest = gather-scatter d cs g (set xs c x) (o .1) (ap (fits cs) k ∙ f .1) (omega arith) in cc
 
 -- one more write
 pub scatter-more : {A : Type 0} (cs : List ℕ) (g xs : List A) (i : ℕ) (d : A) → i < length cs → length g ≡ length cs

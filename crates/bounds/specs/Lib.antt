@@ -5,3 +5,4 @@ pub mod Exact
 pub mod Scoped
 pub mod Listed
 pub mod Beside
+pub mod Theorems

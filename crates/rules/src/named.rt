@@ -14,6 +14,11 @@ use bounds::row::RowPartialEq;
 // The most cells that a rule names: a plate's slots, its variety and 64 counts.
 pub const MOST_NAMED: usize = 66;
 
+// Most rules name so few, and do not pay for the room that a plate needs.
+const FEW_NAMED: usize = 4;
+
+const UNREAD: Row = Row { low: 0, high: 0 };
+
 pub trait Named {
     ghost scoped: { Self → Scoped };
 
@@ -68,13 +73,26 @@ pub fn narrow<R: Named>(rule: &R, rows: &mut [Row]) -> Change
     ensures { λ r. ⌜ Narrows (on-board (scoped (now (rule .entry))) .narrowed) (now (rows .entry)) (now (rows .exit)) r ⌝ }
 {
     let arity = rule.arity();
-    let mut room = [Row { low: 0, high: 0 }; MOST_NAMED];
-    narrow_through(rule, rows, &mut room[0..arity])
+    if arity <= FEW_NAMED {
+        let mut own = [UNREAD; FEW_NAMED];
+        let mut before = [UNREAD; FEW_NAMED];
+        narrow_through(rule, rows, &mut own[0..arity], &mut before[0..arity])
+    } else {
+        let mut own = [UNREAD; MOST_NAMED];
+        let mut before = [UNREAD; MOST_NAMED];
+        narrow_through(rule, rows, &mut own[0..arity], &mut before[0..arity])
+    }
 }
 
-// The same by way of room for the rows of the named cells.
-fn narrow_through<R: Named>(rule: &R, rows: &mut [Row], own: &mut [Row]) -> Change
+// The same by way of room for the rows of the named cells and for what they were.
+fn narrow_through<R: Named>(
+    rule: &R,
+    rows: &mut [Row],
+    own: &mut [Row],
+    before: &mut [Row],
+) -> Change
     requires own { ⌜ length (now own) ≡ length (scoped (now rule) .scope) ⌝ }
+    requires before { ⌜ length (now before) ≡ length (scoped (now rule) .scope) ⌝ }
     requires sound { ⌜ sound (now rows) ≡ true ⌝ }
     ensures { λ r. ⌜ Narrows (on-board (scoped (now (rule .entry))) .narrowed) (now (rows .entry)) (now (rows .exit)) r ⌝ }
 {
@@ -85,7 +103,7 @@ fn narrow_through<R: Named>(rule: &R, rows: &mut [Row], own: &mut [Row]) -> Chan
         Change::Quiet => Change::Quiet,
         Change::Void => Change::Void,
         Change::Narrowed => {
-            if written_back(rule, rows, own) {
+            if written_back(rule, rows, own, before) {
                 Change::Narrowed
             } else {
                 Change::Quiet
@@ -95,16 +113,14 @@ fn narrow_through<R: Named>(rule: &R, rows: &mut [Row], own: &mut [Row]) -> Chan
 }
 
 // Writes the rows to the named cells. False if the board is what it was: a cell that is named twice may get its row again.
-fn written_back<R: Named>(rule: &R, rows: &mut [Row], own: &[Row]) -> bool
+fn written_back<R: Named>(rule: &R, rows: &mut [Row], own: &[Row], before: &mut [Row]) -> bool
     requires own { ⌜ length (now own) ≡ length (scoped (now rule) .scope) ⌝ }
+    requires before { ⌜ length (now before) ≡ length (scoped (now rule) .scope) ⌝ }
     requires whole { ⌜ fits (scoped (now rule) .scope) (length (now rows)) ≡ true ⌝ }
     ensures written { λ _. ⌜ now (rows .exit) ≡ scatter (scoped (now (rule .entry)) .scope) (now (own .entry)) (now (rows .entry)) ⌝ }
     ensures same { λ r. ⌜ (r ≡ false → now (rows .exit) ≡ now (rows .entry)) ⌝ }
     ensures differs { λ r. ⌜ (r ≡ true → now (rows .exit) ≢ now (rows .entry)) ⌝ }
 {
-    let arity = rule.arity();
-    let mut room = [Row { low: 0, high: 0 }; MOST_NAMED];
-    let before = &mut room[0..arity];
     gathered(rule, rows, before);
     scattered(rule, rows, own);
     changed(rule, rows, before)

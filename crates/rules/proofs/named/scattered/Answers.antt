@@ -1,9 +1,8 @@
 use borrow.Author.Needs.{needs}
-use mathlib.Core.Path.{_≡_, sym, ap, _∙_}
+use mathlib.Core.Path.{sym, ap, _∙_}
 use native.Mathlib.Omega.{arith}
 use Prim.Native.Nat.{_+_, _<_}
 use lib.ListN.{length, getD, set, drop}
-use Rattle.bounds.specs.declared.row.Row.{Row}
 use Rattle.bounds.specs.Boards.{none-row}
 use Rattle.bounds.specs.Scoped.{scatter}
 use Rattle.bounds.proofs.Scopes.{fits-at, scatter-more, scatter-all}

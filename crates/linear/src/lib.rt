@@ -1,0 +1,2 @@
+pub mod division;
+pub mod limits;

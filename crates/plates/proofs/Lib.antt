@@ -1,0 +1,12 @@
+pub mod Tops
+pub mod Sums
+pub mod Moves
+pub mod Counts
+pub mod Spans
+pub mod Exactness
+pub mod Adding
+pub mod Frames
+pub mod Writes
+pub mod Whole
+pub mod Scopes
+pub mod Answered

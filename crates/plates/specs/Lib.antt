@@ -1,0 +1,4 @@
+pub mod Plates
+pub mod Form
+pub mod Work
+pub mod Worked

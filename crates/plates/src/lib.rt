@@ -1,0 +1,4 @@
+pub mod family;
+mod frame;
+pub mod plate;
+pub mod worked;

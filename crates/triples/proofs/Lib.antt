@@ -1,0 +1,5 @@
+pub mod Frames
+pub mod Closed
+pub mod Arrays
+pub mod Same
+pub mod Boards
