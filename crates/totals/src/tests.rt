@@ -104,3 +104,100 @@ fn a_floor_raises_the_lows() -> Result<(), Fail> {
     check_eq(totals.narrow(0, &mut rows), Change::Narrowed)?;
     check_eq(rows, [Row { low: 2, high: 3 }, Row { low: 2, high: 2 }])
 }
+
+// The largest total: 64 cells of weight 1,000,000.
+fn largest(floor: u64, ceiling: u64) -> [u8; 402] {
+    let mut file = [0u8; 402];
+    file[0] = 64;
+    let floor = floor.to_le_bytes();
+    let ceiling = ceiling.to_le_bytes();
+    for i in 0..8 {
+        file[2 + i] = floor[i];
+        file[10 + i] = ceiling[i];
+    }
+    for i in 0..64 {
+        file[18 + 6 * i] = i as u8;
+        file[20 + 6 * i] = 0x40;
+        file[21 + 6 * i] = 0x42;
+        file[22 + 6 * i] = 0x0f;
+    }
+    file
+}
+
+#[test]
+fn the_largest_sum_does_not_wrap() -> Result<(), Fail> {
+    let file = largest(4_194_240_000_000, 10_000_000_000_000);
+    let totals = Totals {
+        file: &file,
+        places: &[0],
+    };
+    let mut rows = [Row {
+        low: 0,
+        high: 65535,
+    }; 64];
+    check_eq(totals.narrow(0, &mut rows), Change::Narrowed)?;
+    check_eq(
+        rows,
+        [Row {
+            low: 65535,
+            high: 65535,
+        }; 64],
+    )
+}
+
+#[test]
+fn no_sum_passes_the_largest() -> Result<(), Fail> {
+    let file = largest(4_194_240_000_001, 10_000_000_000_000);
+    let totals = Totals {
+        file: &file,
+        places: &[0],
+    };
+    let mut rows = [Row {
+        low: 0,
+        high: 65535,
+    }; 64];
+    check_eq(totals.narrow(0, &mut rows), Change::Void)
+}
+
+#[test]
+fn a_weight_of_zero_makes_no_rule() -> Result<(), Fail> {
+    let file = [
+        2,
+        0,
+        0,
+        0,
+        0,
+        0,
+        0,
+        0,
+        0,
+        0,
+        1,
+        0,
+        0,
+        0,
+        0,
+        0,
+        0,
+        0,
+        0,
+        0,
+        2,
+        0,
+        0,
+        0,
+        1,
+        0,
+        0,
+        0,
+        0,
+        0,
+    ];
+    let totals = Totals {
+        file: &file,
+        places: &[0],
+    };
+    let mut rows = [Row { low: 0, high: 9 }, Row { low: 0, high: 9 }];
+    check(!totals.touches(0, 2, 0))?;
+    check_eq(totals.narrow(0, &mut rows), Change::Quiet)
+}
