@@ -1,4 +1,4 @@
-use mathlib.Core.Path.{_≡_, refl, ap, subst, _∙_}
+use mathlib.Core.Path.{refl, ap, subst}
 use mathlib.Core.Logic.{_≢_}
 use mathlib.Core.List.{List}
 use native.Mathlib.Omega.{arith}
@@ -6,7 +6,7 @@ use Rattle.bounds.specs.declared.row.Row.{Row}
 use Rattle.bounds.proofs.Places.{low-at, high-at}
 use Rattle.board.specs.Narrows.{Narrows}
 use Rattle.rules.proofs.Answered.{narrowed-to, void-at}
-use Rattle.totals.specs.Worked.{narrowed-by, three-by-twos, up-to, both-one, Both-limits-bind}
+use Rattle.totals.specs.Worked.{narrowed-by, three-by-twos, up-to, both-one}
 use Rattle.totals.proofs.worked.both_limits_bind.Needs as need
 
 first-other : up-to 1 ≢ up-to 4
