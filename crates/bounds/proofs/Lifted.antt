@@ -14,7 +14,7 @@ use Rattle.bounds.specs.Boards.{Board, void, cells, sound, Real, Inside, Withi
 use Rattle.bounds.specs.Laws.{Rule, idle, Laws, FiveLaws, Touched, Untouched, Alike}
 use Rattle.bounds.specs.Exact.{exact}
 use Rattle.bounds.specs.Scoped.{Scoped, fits, names, distinct, gather, scatter, put, on-board, ScopedLaws, exact-on}
-use Rattle.bounds.specs.Listed.{listed}
+use Rattle.bounds.specs.Listed.{numbered, listed}
 use Rattle.bounds.proofs.Places.{low-at, high-at, fills-length, fills-at, at-fills, at-inside, inside-at, at-sound, sound-at, at-fixed, fixed-one}
 use Rattle.bounds.proofs.Rows.{fills-lows, fills-highs, lows-at, highs-at, inside-length, inside-all, cells-void, cells-same}
 use Rattle.bounds.proofs.Hulls.{Hull, Meeting, exact-is, hull-one}
@@ -297,12 +297,15 @@ exact-on-laws scope relation =
       rejects = λ a p e f n. exact-void relation a .1 (λ q m. both-ways (relation p) n (ap relation (fixed-one a p q f (m .0)) ∙ m .1));
     }
 
-pub listed-lawful : (at : List ℕ → ℕ → Scoped) → ((f : List ℕ) (i : ℕ) → ScopedLaws (at f i)) → (file places : List ℕ) → FiveLaws (listed at file places)
-listed-lawful at laws file places =
-    let n = min 4096 (length places) in
+pub numbered-lawful : (size : ℕ) (at : ℕ → Scoped) → ((r : ℕ) → ScopedLaws (at r)) → FiveLaws (numbered size at)
+numbered-lawful size at laws =
+    let n = min 4096 size in
     record {
       few = omega arith;
-      each = λ r. cond-both (ltb r n) _ _ (λ (u : Rule). Laws u)
-          (λ _. lifted-laws (at file (getD places r 0)) (laws file (getD places r 0))) (λ _. idle-laws);
+      each = λ r. cond-both (ltb r n) _ _ (λ (u : Rule). Laws u) (λ _. lifted-laws (at r) (laws r)) (λ _. idle-laws);
       beyond = λ r l. cond-false (ltb r n) _ idle (le-ltb r n l);
     }
+
+pub listed-lawful : (at : List ℕ → ℕ → Scoped) → ((f : List ℕ) (i : ℕ) → ScopedLaws (at f i)) → (file places : List ℕ) → FiveLaws (listed at file places)
+listed-lawful at laws file places =
+    numbered-lawful (length places) (λ r. at file (getD places r 0)) (λ r. laws file (getD places r 0))

@@ -3,10 +3,8 @@ ghost use Prim.Native.Nat.{_≤_, _<_};
 ghost use mathlib.Core.Path.{_≡_};
 ghost use lib.ListN.{length, getD, take, drop};
 ghost use Rattle.std.specs.Options.{Cases as BySome};
-ghost use Rattle.std.specs.Results.{Cases};
-ghost use Rattle.job.specs.Faults.{of-job};
-ghost use Rattle.job.specs.Reading.{reading, refused, granted};
-ghost use Rattle.job.specs.Tallies.{held, row-at};
+ghost use Rattle.job.specs.Jobs.{Reads, job-file, job-found};
+ghost use Rattle.job.specs.Tallies.{row-at};
 use crate::body::Body;
 use crate::contents::Contents;
 use crate::fault::JobFault;
@@ -28,7 +26,7 @@ pub struct Job<'f> {
 
 impl<'f> Job<'f> {
     pub fn read(file: &'f [u8]) -> Result<Job<'f>, JobFault>
-        ensures { λ r. ⌜ Cases r (λ j. (now (j .file) ≡ now (file .entry)) × (reading (now (file .entry)) ≡ granted (held (j .tally) (j .places)))) (λ e. reading (now (file .entry)) ≡ refused (of-job e)) ⌝ }
+        ensures { λ r. ⌜ Reads (now (file .entry)) r ⌝ }
     {
         let contents = Contents::read(file)?;
         let mut tally = Tally {
@@ -55,21 +53,21 @@ impl<'f> Job<'f> {
 
     // The bytes that the rules stand in.
     pub fn file(&self) -> &'f [u8]
-        ensures { λ r. ⌜ now r ≡ now (now (self .entry) .file) ⌝ }
+        ensures { λ r. ⌜ now r ≡ job-file (now (self .entry)) ⌝ }
     {
         self.file
     }
 
     // How many cells there are.
     pub fn cells(&self) -> u16
-        ensures { λ r. ⌜ r ≡ length (held (now (self .entry) .tally) (now (self .entry) .places) .cells) ⌝ }
+        ensures { λ r. ⌜ r ≡ length (job-found (now (self .entry)) .cells) ⌝ }
     {
         self.tally.cells
     }
 
     // The bounds of a cell.
     pub fn cell(&self, number: u16) -> Option<Row>
-        ensures { λ r. ⌜ BySome r (length (held (now (self .entry) .tally) (now (self .entry) .places) .cells) ≤ number) (λ row. (number < length (held (now (self .entry) .tally) (now (self .entry) .places) .cells)) × (row ≡ row-at (now (now (self .entry) .file)) (getD (held (now (self .entry) .tally) (now (self .entry) .places) .cells) number 0))) ⌝ }
+        ensures { λ r. ⌜ BySome r (length (job-found (now (self .entry)) .cells) ≤ number) (λ row. (number < length (job-found (now (self .entry)) .cells)) × (row ≡ row-at (job-file (now (self .entry))) (getD (job-found (now (self .entry)) .cells) number 0))) ⌝ }
     {
         if number >= self.tally.cells {
             return None;
@@ -83,19 +81,19 @@ impl<'f> Job<'f> {
 
     // Where the plates stand in the file.
     pub fn plate_places(&self) -> &[u16]
-        ensures { λ r. ⌜ now r ≡ held (now (self .entry) .tally) (now (self .entry) .places) .plates ⌝ }
+        ensures { λ r. ⌜ now r ≡ job-found (now (self .entry)) .plates ⌝ }
     {
         part(&self.places, 0, self.tally.plates)
     }
 
     pub fn triple_places(&self) -> &[u16]
-        ensures { λ r. ⌜ now r ≡ held (now (self .entry) .tally) (now (self .entry) .places) .triples ⌝ }
+        ensures { λ r. ⌜ now r ≡ job-found (now (self .entry)) .triples ⌝ }
     {
         part(&self.places, self.tally.plates, self.tally.triples)
     }
 
     pub fn total_places(&self) -> &[u16]
-        ensures { λ r. ⌜ now r ≡ held (now (self .entry) .tally) (now (self .entry) .places) .totals ⌝ }
+        ensures { λ r. ⌜ now r ≡ job-found (now (self .entry)) .totals ⌝ }
     {
         part(&self.places, self.tally.triples, self.tally.totals)
     }

@@ -6,3 +6,4 @@ pub mod Paths
 pub mod Firsts
 pub mod Determined
 pub mod Makes
+pub mod Scripted

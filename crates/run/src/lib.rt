@@ -1,4 +1,5 @@
 pub mod answer;
 pub mod call;
-pub mod promise;
+pub mod halted;
+pub mod script;
 pub mod step;

@@ -1,0 +1,4 @@
+pub mod families;
+pub mod report;
+pub mod room;
+
