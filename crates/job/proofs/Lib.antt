@@ -3,3 +3,4 @@ pub mod Gathering
 pub mod Listings
 pub mod Named
 pub mod Walks
+pub mod Telling

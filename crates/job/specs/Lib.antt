@@ -5,3 +5,4 @@ pub mod Jobs
 pub mod Reading
 pub mod Walked
 pub mod Tallies
+pub mod Told

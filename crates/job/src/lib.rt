@@ -5,4 +5,5 @@ pub mod fault;
 pub mod job;
 mod names;
 mod tally;
+pub mod theorems;
 mod walk;
