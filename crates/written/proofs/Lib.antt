@@ -1,1 +1,4 @@
 pub mod Codecs
+pub mod Walks
+pub mod Files
+pub mod Granting
