@@ -50,8 +50,8 @@ numbers-at (c ∷ cs) pre post h =
     let q : length pre + 2 ≡ length (pre ++ bytes 2 c) = omega (arith, length-append pre (bytes 2 c)) in
     let a : number 2 f (length pre) ≡ c = number-at 2 c pre rest (h .0) in
     let b : numbers (length cs) f (length pre + 2) ≡ cs
-          = ap (numbers (length cs) f) q ∙ ap (λ (g : List ℕ). numbers (length cs) g (length (pre ++ bytes 2 c))) (sym (append-assoc pre (bytes 2 c) rest))
-            ∙ numbers-at cs (pre ++ bytes 2 c) post (h .1) in
+    = ap (numbers (length cs) f) q ∙ ap (λ (g : List ℕ). numbers (length cs) g (length (pre ++ bytes 2 c))) (sym (append-assoc pre (bytes 2 c) rest))
+    ∙ numbers-at cs (pre ++ bytes 2 c) post (h .1) in
     λ t. a t ∷ b t
 
 pub terms-at : (ts : List Term) (pre post : List ℕ) → Each (λ t. (t .cell < 65536) × (t .weight < 4294967296)) ts
@@ -63,10 +63,10 @@ terms-at (x ∷ ts) pre post h =
     let q : length pre + 6 ≡ length (pre ++ term-bytes x) = omega (arith, length-append pre (term-bytes x)) in
     let a : number 2 f (length pre) ≡ x .cell = number-at 2 (x .cell) pre (bytes 4 (x .weight) ++ rest) (h .0 .0) in
     let w : number 4 f (length pre + 2) ≡ x .weight = number-behind 4 pre (term-bytes x ++ rest) 2
-            ∙ number-behind 4 (bytes 2 (x .cell)) (bytes 4 (x .weight) ++ rest) 0 ∙ number-written 4 (x .weight) rest (h .0 .1) in
+    ∙ number-behind 4 (bytes 2 (x .cell)) (bytes 4 (x .weight) ++ rest) 0 ∙ number-written 4 (x .weight) rest (h .0 .1) in
     let b : terms (length ts) f (length pre + 6) ≡ ts
-          = ap (terms (length ts) f) q ∙ ap (λ (g : List ℕ). terms (length ts) g (length (pre ++ term-bytes x))) (sym (append-assoc pre (term-bytes x) rest))
-            ∙ terms-at ts (pre ++ term-bytes x) post (h .1) in
+    = ap (terms (length ts) f) q ∙ ap (λ (g : List ℕ). terms (length ts) g (length (pre ++ term-bytes x))) (sym (append-assoc pre (term-bytes x) rest))
+    ∙ terms-at ts (pre ++ term-bytes x) post (h .1) in
     λ t. record { cell = a t; weight = w t } ∷ b t
 
 -- a field behind others of its record
@@ -99,8 +99,8 @@ plate-back x pre post hs hv hn hc =
     let q : length pre + 6 ≡ length (pre ++ head) = omega (arith, length-append pre head) in
     let k : number 2 f (length pre + 4) ≡ n = field 2 (bytes 2 (x .slots) ++ bytes 2 (x .variety)) n pre rest hn in
     let cs : numbers (number 2 f (length pre + 4)) f (length pre + 6) ≡ x .counts
-           = (λ t. numbers (k t) f (q t)) ∙ ap (λ (g : List ℕ). numbers n g (length (pre ++ head))) (sym (append-assoc pre head rest))
-             ∙ numbers-at (x .counts) (pre ++ head) post hc in
+    = (λ t. numbers (k t) f (q t)) ∙ ap (λ (g : List ℕ). numbers n g (length (pre ++ head))) (sym (append-assoc pre head rest))
+    ∙ numbers-at (x .counts) (pre ++ head) post hc in
     λ t. record {
       slots = number-at 2 (x .slots) pre (bytes 2 (x .variety) ++ (bytes 2 n ++ rest)) hs t;
       variety = field 2 (bytes 2 (x .slots)) (x .variety) pre (bytes 2 n ++ rest) hv t;
@@ -118,8 +118,8 @@ total-back x pre post hn hf hc ht =
     let q : length pre + 18 ≡ length (pre ++ head) = omega (arith, length-append pre head) in
     let k : number 2 f (length pre) ≡ n = number-at 2 n pre (bytes 8 (x .floor) ++ (bytes 8 (x .ceiling) ++ rest)) hn in
     let ts : terms (number 2 f (length pre)) f (length pre + 18) ≡ x .terms
-           = (λ t. terms (k t) f (q t)) ∙ ap (λ (g : List ℕ). terms n g (length (pre ++ head))) (sym (append-assoc pre head rest))
-             ∙ terms-at (x .terms) (pre ++ head) post ht in
+    = (λ t. terms (k t) f (q t)) ∙ ap (λ (g : List ℕ). terms n g (length (pre ++ head))) (sym (append-assoc pre head rest))
+    ∙ terms-at (x .terms) (pre ++ head) post ht in
     λ t. record {
       floor = field 8 (bytes 2 n) (x .floor) pre (bytes 8 (x .ceiling) ++ rest) hf t;
       ceiling = field 8 (bytes 2 n ++ bytes 8 (x .floor)) (x .ceiling) pre rest hc t;

@@ -36,8 +36,8 @@ entries-listed (s ∷ ss) pre post start h =
     let b = field 4 (s .kind ∷ []) start pre (bytes 4 n ++ rest) (omega arith) in
     let c = field 4 (s .kind ∷ bytes 4 start) n pre rest (omega arith) in
     let d : entries-from (length ss) f (length pre + 9) ≡ listed (start + n) ss
-          = ap (entries-from (length ss) f) q ∙ ap (λ (g : List ℕ). entries-from (length ss) g (length (pre ++ row))) (sym (append-assoc pre row rest))
-            ∙ entries-listed ss (pre ++ row) post (start + n) (omega arith) in
+    = ap (entries-from (length ss) f) q ∙ ap (λ (g : List ℕ). entries-from (length ss) g (length (pre ++ row))) (sym (append-assoc pre row rest))
+    ∙ entries-listed ss (pre ++ row) post (start + n) (omega arith) in
     λ t. record { kind = a t; offset = b t; size = c t } ∷ d t
 
 pub laid-out : (ss : List Section) (start place all : ℕ) → start + length (joined content ss) ≡ all → misplaced all start place (listed start ss) ≡ None
@@ -46,12 +46,12 @@ laid-out (s ∷ ss) start place all h =
     let n = length (content s) in
     let l = length-append (content s) (joined content ss) in
     ap (λ (t : Bool). cond t (misplaced all (start + n) (place + 9) (listed (start + n) ss)) (Some (line 4 0 place)))
-      (and-from _ _ (eq-eqb start start refl) (fits-in ss (omega arith)))
+    (and-from _ _ (eq-eqb start start refl) (fits-in ss (omega arith)))
     ∙ laid-out ss (start + n) (place + 9) all (omega arith)
   where
-  fits-in : (qs : List Section) → start + length (content s) + length (joined content qs) ≡ all → ends (listed (start + length (content s)) qs) (start + length (content s)) all ≡ true
-  fits-in [] e = eq-eqb _ _ (omega arith)
-  fits-in (q ∷ qs) e = le-leb _ _ (omega arith)
+    fits-in : (qs : List Section) → start + length (content s) + length (joined content qs) ≡ all → ends (listed (start + length (content s)) qs) (start + length (content s)) all ≡ true
+    fits-in [] e = eq-eqb _ _ (omega arith)
+    fits-in (q ∷ qs) e = le-leb _ _ (omega arith)
 
 pub length-listing : (ss : List Section) (start : ℕ) → length (listing start ss) ≡ 9 * length ss
 length-listing [] start = refl

@@ -71,7 +71,7 @@ triple-read n l t pre post h =
     let fa = and-parts (ltb (t .a) n) _ (h .1) in
     let fb = and-parts (ltb (t .b) n) (fits (cond (eqb (t .kind) 4) [] (t .c ∷ [])) n) (fa .1) in
     triple-back t pre post (omega (arith, four)) (omega (arith, ltb-true _ _ (fa .0))) (omega (arith, ltb-true _ _ (fb .0)))
-      (third n (t .c) l (eqb (t .kind) 4) (lim .1) (fb .1))
+    (third n (t .c) l (eqb (t .kind) 4) (lim .1) (fb .1))
 
 pub good-triple : (n : ℕ) → n ≤ 1024 → (t : Triple) → LawfulTriple n t → Good triples-form n (triple-bytes t)
 good-triple n l t h = record {

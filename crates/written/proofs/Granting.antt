@@ -47,7 +47,7 @@ bodies-fine (s ∷ ss) pre g h =
     let b : body f e ≡ c = body-is pre c (joined content ss) e refl refl in
     let is : body-records x (body f e) ≡ offsets 0 (s .records) = ap (body-records x) b ∙ body-offsets x cells (s .records) (h .0) (h .1) in
     let none : record-faults x (length pre) cells (body f e) (rules g) (body-records x (body f e)) ≡ None
-             = (λ t. record-faults x (length pre) cells (b t) (rules g) (is t)) ∙ faultless x (length pre) cells (s .records) [] (rules g) (h .1) (h .2) in
+    = (λ t. record-faults x (length pre) cells (b t) (rules g) (is t)) ∙ faultless x (length pre) cells (s .records) [] (rules g) (h .1) (h .2) in
     let rest = listed (length pre + length c) ss in
     let m : length pre + length c ≡ length (pre ++ c) = omega (arith, length-append pre c) in
     let next = found g (s .kind) (places (length pre) s) in
@@ -82,7 +82,7 @@ filed-granted ss one four few ord fine =
     let c : miscounted f ≡ None = ap (λ (t : Bool). when (not t) (line 3 0 0)) some in
     let d : misordered 1 1 1 (entries f) ≡ None = ap (misordered 1 1 1) es ∙ ord in
     let e : misplaced (length f) (contents-end f) 1 (entries f) ≡ None
-          = (λ t. misplaced (length f) (end t) 1 (es t)) ∙ laid-out ss o 1 (length f) size in
+    = (λ t. misplaced (length f) (end t) 1 (es t)) ∙ laid-out ss o 1 (length f) size in
     let none : contents-fault f ≡ None = λ t. first (a t) (first (b t) (first (c t) (first (d t) (e t)))) in
     let fine2 : Fine nothing (length head) ss = subst (λ (k : ℕ). Fine nothing k ss) (sym lh) fine in
     ap (λ (x : Option Refused). unless x (bodies f nothing (entries f))) none
@@ -99,9 +99,11 @@ spots [] pre = tt
 spots (s ∷ ss) pre =
     let c = content s in
     let m : length pre + length c ≡ length (pre ++ c) = omega (arith, length-append pre c) in
-    let p = append-assoc pre c (joined content ss) in
-    ((pre, joined content ss, refl, refl), subst (λ (n : ℕ). Spots (pre ++ (c ++ joined content ss)) n ss) (sym m)
-      (subst (λ (f : List ℕ). Spots f (length (pre ++ c)) ss) p (spots ss (pre ++ c))))
+    let p = append-assoc pre c (joined content ss) in (
+      (pre, joined content ss, refl, refl),
+      subst (λ (n : ℕ). Spots (pre ++ (c ++ joined content ss)) n ss) (sym m)
+          (subst (λ (f : List ℕ). Spots f (length (pre ++ c)) ss) p (spots ss (pre ++ c))),
+    )
 
 pub filed-spots : (ss : List Section) → Spots (filed ss) (1 + 9 * length ss) ss
 filed-spots ss = subst (λ (n : ℕ). Spots (filed ss) n ss) (length-opening ss) (spots ss (length ss ∷ listing (1 + 9 * length ss) ss))

@@ -55,7 +55,7 @@ walks s cells x (y ∷ ys) pre (suc k) h l =
     let b : List ℕ = pre ++ (x ++ all (y ∷ ys)) in
     let e = h .0 .size pre (all (y ∷ ys)) in
     let more : ltb (length pre + s .size b (length pre)) (length b) ≡ true
-             = lt-ltb _ _ (omega (arith, e, h .1 .0 .some, length-append pre (x ++ all (y ∷ ys)), length-append x (all (y ∷ ys)), length-append y (all ys))) in
+    = lt-ltb _ _ (omega (arith, e, h .1 .0 .some, length-append pre (x ++ all (y ∷ ys)), length-append x (all (y ∷ ys)), length-append y (all ys))) in
     let n : length pre + s .size b (length pre) ≡ length (pre ++ x) = omega (arith, e, length-append pre x) in
     let m : length pre + length x ≡ length (pre ++ x) = omega (arith, length-append pre x) in
     ap (λ (t : Bool). length pre ∷ cond t (records s b (suc k) (length pre + s .size b (length pre))) []) more
@@ -71,8 +71,8 @@ no-fault s start cells x pre post number g h =
     let inside : ltb (length b) (i + s .size b i) ≡ false = le-ltb _ _ (omega (arith, g .size pre post, length-append pre (x ++ post), length-append x post)) in
     let few : ltb number 1024 ≡ true = lt-ltb _ _ h in
     λ t. first (when (inside t) (line 5 (s .kind) (start + i)))
-      (first (when (not (few t && (g .limits pre post t && g .fit pre post t))) (line 6 (s .kind) (start + i)))
-      (when (not (g .apart pre post t)) (line 7 (s .kind) (start + i))))
+    (first (when (not (few t && (g .limits pre post t && g .fit pre post t))) (line 6 (s .kind) (start + i)))
+    (when (not (g .apart pre post t)) (line 7 (s .kind) (start + i))))
 
 pub faultless : (s : Form) (start cells : ℕ) (xs : List (List ℕ)) (pre : List ℕ) (number : ℕ) → Each (Good s cells) xs → number + length xs ≤ 1024
     → record-faults s start cells (pre ++ all xs) number (offsets (length pre) xs) ≡ None
@@ -81,7 +81,7 @@ faultless s start cells (x ∷ xs) pre number h l =
     let b : List ℕ = pre ++ (x ++ all xs) in
     let m : length pre + length x ≡ length (pre ++ x) = omega (arith, length-append pre x) in
     ap (λ (o : Option Refused). first o (record-faults s start cells b (number + 1) (offsets (length pre + length x) xs)))
-      (no-fault s start cells x pre (all xs) number (h .0) (omega arith))
+    (no-fault s start cells x pre (all xs) number (h .0) (omega arith))
     ∙ (λ t. record-faults s start cells (sym (append-assoc pre x (all xs)) t) (number + 1) (offsets (m t) xs))
     ∙ faultless s start cells xs (pre ++ x) (number + 1) (h .1) (omega arith)
 
