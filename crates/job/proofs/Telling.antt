@@ -18,7 +18,7 @@ use Rattle.job.specs.declared.entry.Entry.{Entry}
 use Rattle.job.specs.Contents.{entry-at, entries, entries-from, first, when, ends, contents-end, contents-fault}
 use Rattle.job.specs.Contents as contents
 use Rattle.job.specs.Reading.{Found, Reading, refused, granted, unless, body, form-of, body-records, record-fault, record-faults, rules, found, nothing, bodies, reading}
-use Rattle.job.specs.Told.{Told, long, short, uncounted, misnamed, misplaced, overruns, breaks, repeats, Refusals-told, entry, form-at, body-at, records-at, Misnamed, Misplaced, due, before, at-record, Overruns, Breaks, Repeats}
+use Rattle.job.specs.Told.{Told, long, short, uncounted, misnamed, misplaced, overruns, breaks, repeats, entry, form-at, body-at, records-at, Misnamed, Misplaced, due, before, at-record, Overruns, Breaks, Repeats}
 
 never : {A : Type 0} (x : Refused) → _≡_ {A = Option Refused} None (Some x) → A
 never x e = let z : _≡_ {A = ℕ} 0 1 = cc in absurd (omega arith)
@@ -157,7 +157,7 @@ contents-told f r e = elim (first-some (contents.long f) _ r e) [
   ]
 ]
 
-pub refusals-told : Refusals-told
+pub refusals-told : (f : List ℕ) (r : Refused) → reading f ≡ refused r → Told f r
 refusals-told f r e = by (contents-fault f) refl e
   where
     by : (o : Option Refused) → contents-fault f ≡ o → unless o (bodies f nothing (entries f)) ≡ refused r → Told f r

@@ -11,7 +11,7 @@ use Rattle.records.specs.Refusals.{line}
 use Rattle.records.specs.declared.refused.Refused.{Refused}
 use Rattle.job.specs.declared.entry.Entry.{Entry}
 use Rattle.job.specs.Contents.{entry-at, contents-end}
-use Rattle.job.specs.Reading.{Found, nothing, found, rules, form-of, body, body-records, reading, refused}
+use Rattle.job.specs.Reading.{Found, nothing, found, rules, form-of, body, body-records}
 
 -- entry k, its form, its body and the places of the records there
 abbrev pub entry : List ℕ → ℕ → Entry
@@ -71,6 +71,3 @@ pub data Told (f : List ℕ) (r : Refused) : Type 0 where
   overruns : (k j : ℕ) → k < getD f 0 0 → j < length (records-at f k) → Overruns f k j → r ≡ at-record f 5 k j → Told f r
   breaks : (k j : ℕ) → k < getD f 0 0 → j < length (records-at f k) → Breaks f k j → r ≡ at-record f 6 k j → Told f r
   repeats : (k j : ℕ) → k < getD f 0 0 → j < length (records-at f k) → Repeats f k j → r ≡ at-record f 7 k j → Told f r
-
-abbrev pub Refusals-told : Type 0
-Refusals-told = (f : List ℕ) (r : Refused) → reading f ≡ refused r → Told f r

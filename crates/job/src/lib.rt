@@ -5,5 +5,4 @@ pub mod fault;
 pub mod job;
 mod names;
 mod tally;
-pub mod theorems;
 mod walk;

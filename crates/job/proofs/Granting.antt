@@ -14,12 +14,12 @@ use Rattle.std.proofs.shelf.Tests.{le-ltb, le-leb, and-from}
 use Rattle.records.specs.Forms.{Form, between}
 use Rattle.records.specs.Refusals.{line}
 use Rattle.records.specs.declared.refused.Refused.{Refused}
 use Rattle.job.specs.declared.entry.Entry.{Entry}
 use Rattle.job.specs.Contents.{entries, entries-from, first, when, long, short, miscounted, misordered, misplaced, contents-end, contents-fault}
 use Rattle.job.specs.Reading.{Found, Reading, granted, unless, body, form-of, body-records, record-faults, rules, found, nothing, bodies, reading}
-use Rattle.written.specs.Written.{Section, content, listing, filed, Each}
-use Rattle.written.proofs.Walks.{Good, offsets, all, body-offsets, faultless, length-offsets}
-use Rattle.written.proofs.Files.{listed, entries-listed, laid-out, length-listing, body-is}
+use Rattle.job.specs.Written.{Section, content, listing, filed, Each}
+use Rattle.job.proofs.Strings.{Good, offsets, all, body-offsets, faultless, length-offsets}
+use Rattle.job.proofs.Files.{listed, entries-listed, laid-out, length-listing, body-is}
 
 -- the places of the records of a section that starts at a place
 abbrev pub places : ℕ → Section → List ℕ

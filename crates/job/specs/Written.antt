@@ -1,4 +1,4 @@
--- The file of given records, and what its reading has to be.
+-- The file of given records, and what a reading of it has to find.
 use Prim.Native.Nat.{ℕ, zero, suc, _+_, _*_, _/_, _%_, _≤_, _<_}
 use mathlib.Core.Path.{_≡_}
 use mathlib.Core.Bool.{true}
@@ -8,7 +8,7 @@ use Rattle.std.specs.shelf.Lists.{joined}
 use Rattle.bounds.specs.Scoped.{fits, distinct}
 use Rattle.records.specs.Records.{Bounds, bounds-at, Plate, plate-at, Triple, triple-at, Term, Total, total-at}
 use Rattle.records.specs.Forms.{between, plate-names, triple-names, term-cells, triple-limits, total-limits}
-use Rattle.job.specs.Reading.{Found, reading, granted}
+use Rattle.job.specs.Reading.{Found}
 
 pub record Records : Type 0 where
   pub cells : List Bounds
@@ -97,7 +97,3 @@ pub record Read (f : List ℕ) (g : Found) (r : Records) : Type 0 where
   pub plates : map (plate-at f) (g .plates) ≡ r .plates
   pub triples : map (triple-at f) (g .triples) ≡ r .triples
   pub totals : map (total-at f) (g .totals) ≡ r .totals
-
--- The file of lawful records is granted, and reads as those records.
-abbrev pub Written-granted : Type 0
-Written-granted = (r : Records) → Lawful r → (g : Found) × (reading (written r) ≡ granted g) × Read (written r) g r

@@ -9,13 +9,14 @@ use Rattle.std.specs.declared.option.Option.the-variants.{None}
 use Rattle.std.proofs.shelf.Lists.{length-append, length-map}
 use Rattle.records.specs.Records.{Bounds, Plate, Triple, Total, plate-at, triple-at, total-at, bounds-at}
 use Rattle.records.specs.Forms.{Form, cells-form, plates-form, triples-form, totals-form}
+use Rattle.records.specs.declared.refused.Refused.{Refused}
 use Rattle.job.specs.Contents.{misordered}
-use Rattle.job.specs.Reading.{Found, granted, rules, found, nothing, reading}
-use Rattle.written.specs.Written.{Records, Section, content, section, sections, filed, written, Each, Lawful, Read, Written-granted, bounds-bytes, plate-bytes, triple-bytes, total-bytes, LawfulBounds, LawfulPlate, LawfulTriple, LawfulTotal}
-use Rattle.written.proofs.Walks.{Good, offsets, all, length-offsets}
-use Rattle.written.proofs.Files.{listed}
-use Rattle.written.proofs.Granting.{places, placed, Fine, Spots, filed-granted, filed-spots, reads}
-use Rattle.written.proofs.Goods.{goods, bounds-read, good-bounds, plate-read, good-plate, triple-read, good-triple, total-read, good-total}
+use Rattle.job.specs.Reading.{Found, Reading, granted, refused, rules, found, nothing, reading}
+use Rattle.job.specs.Written.{Records, Section, content, section, sections, filed, written, Each, Lawful, Read, bounds-bytes, plate-bytes, triple-bytes, total-bytes, LawfulBounds, LawfulPlate, LawfulTriple, LawfulTotal}
+use Rattle.job.proofs.Strings.{Good, offsets, all, length-offsets}
+use Rattle.job.proofs.Files.{listed}
+use Rattle.job.proofs.Granting.{places, placed, Fine, Spots, filed-granted, filed-spots, reads}
+use Rattle.job.proofs.Goods.{goods, bounds-read, good-bounds, plate-read, good-plate, triple-read, good-triple, total-read, good-total}
 
 ordered : (c : Bounds) (cs : List Bounds) (ps : List Plate) (ts : List Triple) (us : List Total) (start : ℕ)
     → misordered 1 1 1 (listed start (sections (record { cells = c ∷ cs; plates = ps; triples = ts; totals = us }))) ≡ None
@@ -145,5 +146,21 @@ whole (c ∷ cs) ps ts us law =
       },
     )
 
-pub written-granted : Written-granted
+pub written-granted : (r : Records) → Lawful r → (g : Found) × (reading (written r) ≡ granted g) × Read (written r) g r
 written-granted r law = whole (r .cells) (r .plates) (r .triples) (r .totals) law
+
+pub found-again : (f : List ℕ) (g : Found) → reading f ≡ granted g → (x : Records) → Lawful x → written x ≡ f → Read f g x
+found-again f g e x law w =
+    let y = written-granted x law in
+    let same : y .0 ≡ g = grants (y .0) g (sym (y .1) ∙ ap reading w ∙ e) in
+    subst (λ (h : Found). Read f h x) same (subst (λ (q : List ℕ). Read q (y .0) x) w (y .2))
+  where
+    grants : (a b : Found) → _≡_ {A = Reading} (granted a) (granted b) → a ≡ b
+    grants a b e = cc
+
+pub never-refused : (f : List ℕ) (r : Refused) → reading f ≡ refused r → (x : Records) → Lawful x → written x ≡ f → ⊥
+never-refused f r e x law w =
+    let y = written-granted x law in clash (y .0) (sym (y .1) ∙ ap reading w ∙ e)
+  where
+    clash : (a : Found) → _≡_ {A = Reading} (granted a) (refused r) → ⊥
+    clash a e = let z : _≡_ {A = ℕ} 0 1 = cc in omega arith

@@ -9,7 +9,7 @@ use Rattle.std.specs.shelf.Lists.{joined}
 use Rattle.std.proofs.shelf.Lists.{getD-append-add, length-append}
 use Rattle.records.specs.Bytes.{number}
 use Rattle.records.specs.Records.{Bounds, bounds-at, Plate, plate-at, Triple, triple-at, Term, Total, total-at, numbers, terms}
-use Rattle.written.specs.Written.{bytes, bounds-bytes, plate-bytes, triple-bytes, term-bytes, total-bytes, Each}
+use Rattle.job.specs.Written.{bytes, bounds-bytes, plate-bytes, triple-bytes, term-bytes, total-bytes, Each}
 
 -- bytes behind others
 pub number-behind : (w : ℕ) (pre xs : List ℕ) (i : ℕ) → number w (pre ++ xs) (length pre + i) ≡ number w xs i

@@ -12,9 +12,9 @@ use Rattle.std.proofs.shelf.Tests.{le-leb, and-parts, ltb-true, leb-true, eqb-t
 use Rattle.bounds.specs.Scoped.{fits, distinct}
 use Rattle.records.specs.Records.{Bounds, Plate, Triple, Term, Total, plate-at, triple-at, total-at, bounds-at}
 use Rattle.records.specs.Forms.{Form, between, weighted, cells-form, plates-form, triples-form, totals-form, plate-names, triple-names, term-cells, triple-limits, total-limits}
-use Rattle.written.specs.Written.{Each, bytes, bounds-bytes, plate-bytes, triple-bytes, term-bytes, total-bytes, LawfulBounds, LawfulPlate, LawfulTriple, LawfulTotal}
-use Rattle.written.proofs.Codecs.{bounds-back, plate-back, triple-back, total-back}
-use Rattle.written.proofs.Walks.{Good}
+use Rattle.job.specs.Written.{Each, bytes, bounds-bytes, plate-bytes, triple-bytes, term-bytes, total-bytes, LawfulBounds, LawfulPlate, LawfulTriple, LawfulTotal}
+use Rattle.job.proofs.Codecs.{bounds-back, plate-back, triple-back, total-back}
+use Rattle.job.proofs.Strings.{Good}
 
 pub goods : {A : Type 0} (s : Form) (n : ℕ) (encode : A → List ℕ) (P : A → Type 0) → ((x : A) → P x → Good s n (encode x))
     → (xs : List A) → Each P xs → Each (Good s n) (map encode xs)

@@ -15,9 +15,9 @@ use Rattle.bounds.specs.Scoped.{fits, distinct}
 use Rattle.records.specs.Forms.{Form}
 use Rattle.records.specs.Refusals.{line}
 use Rattle.records.specs.declared.refused.Refused.{Refused}
 use Rattle.job.specs.Contents.{first, when}
 use Rattle.job.specs.Reading.{records, record-fault, record-faults, body-records}
-use Rattle.written.specs.Written.{Each}
+use Rattle.job.specs.Written.{Each}
 
 -- the bytes of a record without fault, wherever they stand
 pub record Good (s : Form) (cells : ℕ) (x : List ℕ) : Type 0 where

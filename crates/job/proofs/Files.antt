@@ -12,11 +12,11 @@ use Rattle.std.specs.declared.option.Option.the-variants.{Some, None}
 use Rattle.std.proofs.shelf.Lists.{length-append, getD-at, drop-at, take-at}
 use Rattle.std.proofs.shelf.Tests.{eq-eqb, le-leb, and-from}
 use Rattle.records.specs.Refusals.{line}
 use Rattle.job.specs.declared.entry.Entry.{Entry}
 use Rattle.job.specs.Contents.{entry-at, entries-from, ends, misplaced}
 use Rattle.job.specs.Reading.{body}
-use Rattle.written.specs.Written.{Section, content, listing, bytes}
-use Rattle.written.proofs.Codecs.{field}
+use Rattle.job.specs.Written.{Section, content, listing, bytes}
+use Rattle.job.proofs.Codecs.{field}
 
 abbrev pub listed : ℕ → List Section → List Entry
 listed start [] = []

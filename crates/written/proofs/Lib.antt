@@ -1,6 +1,0 @@
-pub mod Codecs
-pub mod Walks
-pub mod Files
-pub mod Granting
-pub mod Goods
-pub mod Whole
