@@ -1,9 +1,8 @@
--- A job as read: its rules and its board.
+-- The rules of a job as read.
 use Prim.Native.Nat.{ℕ}
 use mathlib.Core.Path.{_≡_}
-use mathlib.Core.List.{List, map}
+use mathlib.Core.List.{List}
 use denote.Ref.{now}
-use Rattle.bounds.specs.declared.row.Row.{Row}
 use Rattle.bounds.specs.Laws.{Meaning}
 use Rattle.bounds.specs.Beside.{beside}
 use Rattle.board.specs.declared.beside.Beside.{Beside}
@@ -12,7 +11,7 @@ use Rattle.plates.specs.Plates.{plates}
 use Rattle.triples.specs.declared.family.Triples.{Triples}
 use Rattle.triples.specs.Triples.{triples}
 use Rattle.totals.specs.declared.family.Totals.{Totals}
-use Rattle.totals.specs.Totals.{totals}
+use Rattle.linear.specs.Totals.{totals}
 use Rattle.job.specs.Reading.{Found}
 
 -- the plates, triples and totals that stand in the file, numbered in that order

@@ -1,6 +1,6 @@
 // The rules of a job: its plates, then its triples, then its totals.
 ghost use mathlib.Core.Path.{_≡_};
-ghost use Rattle.job.specs.Tallies.{held};
+ghost use Rattle.job.specs.Jobs.{job-file, job-found};
 ghost use Rattle.console.specs.Jobs.{JobRules};
 use board::beside::Beside;
 use job::job::Job;
@@ -10,8 +10,8 @@ use triples::family::Triples;
 
 pub type Families<'f> = Beside<Plates<'f>, Beside<Triples<'f>, Totals<'f>>>;
 
-pub fn rules_of<'f>(job: &'f Job<'f>) -> Families<'f>
-    ensures { λ r. ⌜ JobRules (now (now (job .entry) .file)) (held (now (job .entry) .tally) (now (job .entry) .places)) r ⌝ }
+pub fn rules_of<'j, 'f>(job: &'j Job<'f>) -> Families<'j>
+    ensures { λ r. ⌜ JobRules (job-file (now (job .entry))) (job-found (now (job .entry))) r ⌝ }
 {
     let file = job.file();
     Beside {

@@ -1,2 +1,4 @@
-pub mod boards;
 pub mod families;
+pub mod report;
+pub mod room;
+
