@@ -1,5 +1,12 @@
+pub mod Codecs
+pub mod Files
 pub mod Gathered
 pub mod Gathering
+pub mod Goods
+pub mod Granting
 pub mod Listings
 pub mod Named
+pub mod Strings
+pub mod Telling
 pub mod Walks
+pub mod Whole

@@ -10,6 +10,8 @@ use Rattle.job.specs.declared.fault.JobFault.{JobFault}
 use Rattle.job.specs.Faults.{of-job}
 use Rattle.job.specs.Reading.{Found, reading, refused, granted}
 use Rattle.job.specs.Tallies.{held}
+use Rattle.job.specs.Told.{Told}
+use Rattle.job.specs.Written.{Records, Lawful, Read, written}
 
 abbrev pub job-file : Job → List ℕ
 job-file j = now (j .file)
@@ -20,3 +22,9 @@ job-found j = held (j .tally) (j .places)
 -- the answer for a file: its reading, refused or granted
 abbrev pub Reads : List ℕ → Result Job JobFault → Type 0
 Reads f r = Cases r (λ j. (job-file j ≡ f) × (reading f ≡ granted (job-found j))) (λ e. reading f ≡ refused (of-job e))
+
+-- What a granted job and a refusal mean: the records that made the file are found, each refusal tells of a fault that
+-- stands at its place, and no file of lawful records is refused.
+abbrev pub Means : List ℕ → Result Job JobFault → Type 0
+Means f r = Cases r (λ j. (x : Records) → Lawful x → written x ≡ f → Read f (job-found j) x)
+    (λ e. Told f (of-job e) × ((x : Records) → Lawful x → written x ≡ f → ⊥))

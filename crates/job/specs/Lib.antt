@@ -3,5 +3,7 @@ pub mod Contents
 pub mod Faults
 pub mod Jobs
 pub mod Reading
-pub mod Walked
 pub mod Tallies
+pub mod Told
+pub mod Walked
+pub mod Written

@@ -3,7 +3,7 @@ ghost use Prim.Native.Nat.{_≤_, _<_};
 ghost use mathlib.Core.Path.{_≡_};
 ghost use lib.ListN.{length, getD, take, drop};
 ghost use Rattle.std.specs.Options.{Cases as BySome};
-ghost use Rattle.job.specs.Jobs.{Reads, job-file, job-found};
+ghost use Rattle.job.specs.Jobs.{Means, Reads, job-file, job-found};
 ghost use Rattle.job.specs.Tallies.{row-at};
 use crate::body::Body;
 use crate::contents::Contents;
@@ -25,7 +25,15 @@ pub struct Job<'f> {
 }
 
 impl<'f> Job<'f> {
+    // A file that breaks a limit is refused by its number, at its place; every other file is read.
     pub fn read(file: &'f [u8]) -> Result<Job<'f>, JobFault>
+        ensures reading { λ r. ⌜ Reads (now (file .entry)) r ⌝ }
+        ensures meaning { λ r. ⌜ Means (now (file .entry)) r ⌝ }
+    {
+        Job::scan(file)
+    }
+
+    fn scan(file: &'f [u8]) -> Result<Job<'f>, JobFault>
         ensures { λ r. ⌜ Reads (now (file .entry)) r ⌝ }
     {
         let contents = Contents::read(file)?;
