@@ -1,4 +1,3 @@
 pub mod families;
 pub mod report;
 pub mod room;
-

@@ -15,7 +15,6 @@ use plates::family::PlatesFamily;
 use records::refused::Refused;
 use run::answer::Answer;
 use run::call::Call;
-
 use run::script::run;
 use std::alloc::AllocError;
 use std::alloc::Global;
@@ -27,7 +26,10 @@ use triples::family::TriplesFamily;
 pub enum Report {
     Refused(Refused),
     // The answers to a settle and a seek, and the bounds that were left.
-    Planned { answers: Vec<Answer>, bounds: Vec<Row> },
+    Planned {
+        answers: Vec<Answer>,
+        bounds: Vec<Row>,
+    },
 }
 
 // Reads the job, settles its board and seeks the first plan, in the memory that is lent.
@@ -49,7 +51,14 @@ pub fn plan_job(heap: Global, file: &[u8], room: Room) -> Result<Report, AllocEr
         Err(_) => return Ok(Report::Refused(room_refused(file))),
     };
     let script = [Call::Settle, Call::Seek];
-    match run(heap, &mut board, &rules_of(&job), &script, &mut plan, &mut scratch) {
+    match run(
+        heap,
+        &mut board,
+        &rules_of(&job),
+        &script,
+        &mut plan,
+        &mut scratch,
+    ) {
         Ok(answers) => Ok(Report::Planned {
             answers,
             bounds: bounds_left(heap, &board)?,
@@ -108,7 +117,11 @@ pub impl fmt::Display for Report as ReportDisplay {
 }
 
 // The lines of one answer: of a settle the narrowings and the bounds, of a seek the plan. A void board has no plan to tell.
-fn write_planned<W: fmt::Write>(f: &mut fmt::Formatter<W>, answer: &Answer, bounds: &[Row]) -> fmt::Result {
+fn write_planned<W: fmt::Write>(
+    f: &mut fmt::Formatter<W>,
+    answer: &Answer,
+    bounds: &[Row],
+) -> fmt::Result {
     match answer {
         Answer::Settled(narrowings) => {
             writeln!(f, "narrowings {narrowings}")?;
