@@ -2,3 +2,5 @@
 pub mod family;
 pub mod mirror;
 pub mod named;
+#[cfg(test)]
+mod tests;
