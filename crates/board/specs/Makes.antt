@@ -4,8 +4,8 @@ use mathlib.Core.Path.{_≡_}
 use mathlib.Core.Bool.{_&&_, cond}
 use mathlib.Core.List.{List}
 use lib.Dec.{leb}
-use lib.ListN.{length, take}
-use Rattle.std.specs.Of.Vec.{vec-items}
+use lib.ListN.{take}
+use Rattle.std.specs.Of.Vec.{vec-items, vec-len}
 use Rattle.std.specs.declared.vec.Vec.{Vec}
 use Rattle.std.specs.declared.alloc.Global.{Global}
 use Rattle.std.specs.declared.option.Option.{Option}
@@ -21,15 +21,14 @@ use Rattle.board.specs.declared.unfit.Refused.{Refused}
 use Rattle.board.specs.Calls.{as-read}
 use Rattle.board.specs.Held.{state}
 
--- why the memory makes no board of n cells: not 1 to 1,024 of them, too little board or trial memory, a low above its high
-abbrev pub unfit : List Row → List Row → ℕ → Option Unfit
-unfit rows saved n =
-    cond (leb 1 n && leb n 1024)
-    (cond (leb n (length rows) && leb (16 * n) (length saved)) (cond (sound (take n rows)) None (Some Unsound)) (Some Room))
-    (Some Size)
+-- why n rows make no board in memory for so many rows and so many saved ones: not 1 to 1,024 of them, too little memory,
+-- a low above its high
+abbrev pub unfit : ℕ → List Row → ℕ → ℕ → Option Unfit
+unfit n rows room trial-room =
+    cond (leb 1 n && leb n 1024) (cond (leb n room && leb (16 * n) trial-room) (cond (sound rows) None (Some Unsound)) (Some Room)) (Some Size)
 
 abbrev pub Makes : Vec Row Global → Vec Row Global → ℕ → Result Board Refused → Type 0
 Makes rows saved n (Ok b) =
-    (unfit (vec-items rows) (vec-items saved) n ≡ None) × (b .rows ≡ rows) × (b .saved ≡ saved) × (state b ≡ as-read (take n (vec-items rows)))
+    (unfit n (take n (vec-items rows)) (vec-len rows) (vec-len saved) ≡ None) × (b .rows ≡ rows) × (b .saved ≡ saved) × (state b ≡ as-read (take n (vec-items rows)))
 Makes rows saved n (Err e) =
-    (unfit (vec-items rows) (vec-items saved) n ≡ Some (e .why)) × (e .rows ≡ rows) × (e .saved ≡ saved)
+    (unfit n (take n (vec-items rows)) (vec-len rows) (vec-len saved) ≡ Some (e .why)) × (e .rows ≡ rows) × (e .saved ≡ saved)

@@ -10,13 +10,13 @@ use lib.ListN.{length, getD}
 use Rattle.std.proofs.shelf.Lists.{ext-getD}
 use Rattle.std.proofs.shelf.Tests.{cond-both, cond-true, cond-false, cases-bool, both-ways, and-from, and-parts, and-cases, le-ltb}
 use Rattle.bounds.specs.declared.row.Row.{Row}
-use Rattle.bounds.specs.Boards.{Board, void, cells, sound, Real, Inside, Within, Fills, Lies, Fixed, lows, none-row}
+use Rattle.bounds.specs.Boards.{Board, void, cells, sound, Real, Inside, Within, Fills, Lies, Fixed, lows, highs, none-row}
 use Rattle.bounds.specs.Laws.{Rule, idle, Laws, FiveLaws, Touched, Untouched, Alike}
 use Rattle.bounds.specs.Exact.{exact}
 use Rattle.bounds.specs.Scoped.{Scoped, fits, names, distinct, gather, scatter, put, on-board, ScopedLaws, exact-on}
 use Rattle.bounds.specs.Listed.{numbered, listed}
 use Rattle.bounds.proofs.Places.{low-at, high-at, fills-length, fills-at, at-fills, at-inside, inside-at, at-sound, sound-at, at-fixed, fixed-one}
-use Rattle.bounds.proofs.Rows.{highs, fills-lows, fills-highs, lows-at, highs-at, inside-length, inside-all, cells-void, cells-same}
+use Rattle.bounds.proofs.Rows.{fills-lows, fills-highs, lows-at, highs-at, inside-length, inside-all, cells-void, cells-same}
 use Rattle.bounds.proofs.Hulls.{Hull, Meeting, exact-is, hull-one}
 use Rattle.bounds.proofs.Exactly.{exact-void, exact-cells, tight-inside}
 use Rattle.bounds.proofs.ExactLaws.{exact-laws}

@@ -8,15 +8,11 @@ use lib.Dec.{leb}
 use lib.ListN.{length, getD, set, take}
 use Rattle.std.proofs.shelf.Tests.{and-parts, and-from, leb-true, le-leb}
 use Rattle.bounds.specs.declared.row.Row.{Row}
-use Rattle.bounds.specs.Boards.{Board, void, cells, sound, Inside, Fills, spread, width, lows, none-row}
+use Rattle.bounds.specs.Boards.{Board, void, cells, sound, Inside, Fills, spread, width, lows, highs, none-row}
 use Rattle.bounds.specs.Cells.{common}
 use Rattle.bounds.proofs.Places.{same-row}
 
-abbrev pub highs : List Row → List ℕ
-highs [] = []
-highs (r ∷ rs) = r .high ∷ highs rs
-
-sound-parts : (r : Row) (rs : List Row) → sound (r ∷ rs) ≡ true → (r .low ≤ r .high) × (sound rs ≡ true)
+pub sound-parts : (r : Row) (rs : List Row) → sound (r ∷ rs) ≡ true → (r .low ≤ r .high) × (sound rs ≡ true)
 sound-parts r rs h = let k = and-parts (leb (r .low) (r .high)) (sound rs) h in (leb-true (r .low) (r .high) (k .0), k .1)
 
 pub fills-lows : (a : List Row) → sound a ≡ true → Fills (lows a) a

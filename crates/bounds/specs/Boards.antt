@@ -62,5 +62,9 @@ abbrev pub lows : List Row → List ℕ
 lows [] = []
 lows (r ∷ rs) = r .low ∷ lows rs
 
+abbrev pub highs : List Row → List ℕ
+highs [] = []
+highs (r ∷ rs) = r .high ∷ highs rs
+
 abbrev pub none-row : Row
 none-row = record { low = 0; high = 0 }

@@ -10,14 +10,14 @@ use lib.ListN.{length, getD, set, length-set}
 use Rattle.std.proofs.shelf.Tests.{both-ways, le-leb, leb-true, and-parts, and-from}
 use Rattle.std.proofs.shelf.Lists.{getD-set-same}
 use Rattle.bounds.specs.declared.row.Row.{Row}
-use Rattle.bounds.specs.Boards.{sound, Fills, lows, none-row}
+use Rattle.bounds.specs.Boards.{sound, Fills, lows, highs, none-row}
 use Rattle.bounds.specs.Exact.{exact}
 use Rattle.bounds.proofs.Places.{low-at, high-at, fills-length, fills-sound, sound-at}
-use Rattle.bounds.proofs.Rows.{fills-lows, lows-at}
+use Rattle.bounds.proofs.Rows.{fills-lows, fills-highs, lows-at, highs-at}
 use Rattle.bounds.proofs.Hulls.{Tight, Hull, Meeting, exact-is, hull-one}
-use Rattle.linear.specs.Linear.{weighed, highs, over, limits, sum-within, bounded-sum}
+use Rattle.linear.specs.Linear.{weighed, over, limits, sum-within, bounded-sum}
 use Rattle.linear.proofs.Quotients.{div-weighs, div-greatest, over-weighs, over-least}
-use Rattle.linear.proofs.Weights.{Positive, positive-at, fills-highs, highs-at, fills-set, weighed-fills, weighed-one, weighed-set, weighed-others, bounded-length, bounded-at}
+use Rattle.linear.proofs.Weights.{Positive, positive-at, fills-set, weighed-fills, weighed-one, weighed-set, weighed-others, bounded-length, bounded-at}
 use Rattle.linear.proofs.LinearLaws.{new-rows, new-keeps, by-ways, hopeless-cases}
 
 module _ (ws : List ℕ) (floor ceiling : ℕ) (a : List Row) (pos : Positive ws) (e : length ws ≡ length a) (s : sound a ≡ true) where

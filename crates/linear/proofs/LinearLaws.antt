@@ -10,14 +10,14 @@ use lib.Dec.{ltb, leb}
 use lib.ListN.{length}
 use Rattle.std.proofs.shelf.Tests.{cond-both, cond-true, cond-false, both-ways, ltb-true, ltb-false, lt-ltb, le-ltb, leb-true, leb-false, and-parts, and-cases, or-cases, or-parts, or-from, or-left, or-right}
 use Rattle.bounds.specs.declared.row.Row.{Row}
-use Rattle.bounds.specs.Boards.{Board, void, cells, sound, Real, Within, Inside, Fills, Lies, Fixed, lows}
+use Rattle.bounds.specs.Boards.{Board, void, cells, sound, Real, Within, Inside, Fills, Lies, Fixed, lows, highs}
 use Rattle.bounds.specs.Scoped.{ScopedLaws}
 use Rattle.bounds.proofs.Places.{fills-inside, fills-sound}
-use Rattle.bounds.proofs.Rows.{fills-lows}
+use Rattle.bounds.proofs.Rows.{sound-parts, fills-lows}
 use Rattle.linear.specs.declared.limits.Limits.{Limits}
-use Rattle.linear.specs.Linear.{weighed, highs, over, limits, bounded, all-bounded, board-of, bounded-sum, sum-within, linear}
+use Rattle.linear.specs.Linear.{weighed, over, limits, bounded, all-bounded, board-of, bounded-sum, sum-within, linear}
 use Rattle.linear.proofs.Quotients.{div-weighs, div-greatest, div-mono, over-weighs, over-least, over-mono}
-use Rattle.linear.proofs.Weights.{Positive, sound-parts, fills-highs, weighed-fills, weighed-inside, fixed-ends}
+use Rattle.linear.proofs.Weights.{Positive, weighed-fills, weighed-inside, fixed-ends}
 
 module _ (l : Limits) where
   pub bounded-inside : (ws : List ℕ) (a : List Row) → length ws ≡ length a → Inside (all-bounded l ws a) a

@@ -6,26 +6,17 @@ use mathlib.Core.List.{List, [], _∷_}
 use native.Mathlib.Omega.{arith}
 use native.Mathlib.Nat.{mul-le-mul-left}
 use native.Mathlib.Numerals.{add-one}
-use lib.Dec.{leb}
 use lib.ListN.{length, getD, set, take}
-use Rattle.std.proofs.shelf.Tests.{leb-true, and-parts}
 use Rattle.bounds.specs.declared.row.Row.{Row}
-use Rattle.bounds.specs.Boards.{sound, Inside, Fills, Fixed, lows, none-row}
+use Rattle.bounds.specs.Boards.{sound, Inside, Fills, Fixed, lows, highs, none-row}
 use Rattle.bounds.proofs.Places.{fills-inside}
-use Rattle.bounds.proofs.Rows.{fills-lows}
+use Rattle.bounds.proofs.Rows.{sound-parts, fills-lows, fills-highs}
 use Rattle.linear.specs.declared.limits.Limits.{Limits}
-use Rattle.linear.specs.Linear.{weighed, highs, limits, bounded, all-bounded}
+use Rattle.linear.specs.Linear.{weighed, limits, bounded, all-bounded}
 
 abbrev pub Positive : List ℕ → Type 0
 Positive [] = Unit {0}
 Positive (w ∷ ws) = (0 < w) × Positive ws
-
-pub sound-parts : (r : Row) (a : List Row) → sound (r ∷ a) ≡ true → (r .low ≤ r .high) × (sound a ≡ true)
-sound-parts r a h = let k = and-parts (leb (r .low) (r .high)) (sound a) h in (leb-true (r .low) (r .high) (k .0), k .1)
-
-pub fills-highs : (a : List Row) → sound a ≡ true → Fills (highs a) a
-fills-highs [] s = tt
-fills-highs (r ∷ a) s = let t = sound-parts r a s in (t .0, omega arith, fills-highs a (t .1))
 
 pub weighed-fills : (ws p : List ℕ) (a : List Row) → Fills p a → (weighed ws (lows a) ≤ weighed ws p) × (weighed ws p ≤ weighed ws (highs a))
 weighed-fills [] p a f = (omega arith, omega arith)
@@ -104,11 +95,6 @@ module _ (ws : List ℕ) (floor ceiling : ℕ) where
       let more = weighed-more ws a i h e in
       rw add-one (same-limits m (limits ws floor ceiling (take (suc i) a)) (f ∙ ap (λ x. x .floor) v) (g ∙ ap (λ x. x .ceiling) v)
       (omega (arith, ap (λ x. x .least) v)) (omega (arith, ap (λ x. x .most) v)))
-
-pub highs-at : (a : List Row) (c : ℕ) → getD (highs a) c 0 ≡ getD a c none-row .high
-highs-at [] c = refl
-highs-at (r ∷ a) zero = refl
-highs-at (r ∷ a) (suc c) = highs-at a c
 
 pub fills-set : (p : List ℕ) (a : List Row) (c n : ℕ) → Fills p a → getD a c none-row .low ≤ n → n ≤ getD a c none-row .high → Fills (set p c n) a
 fills-set [] a c n f l h = f

@@ -4,7 +4,7 @@ use mathlib.Core.Bool.{Bool, cond, _&&_, _||_}
 use mathlib.Core.List.{List, [], _∷_}
 use lib.Dec.{ltb, leb}
 use Rattle.bounds.specs.declared.row.Row.{Row}
-use Rattle.bounds.specs.Boards.{Board, void, cells, sound, lows}
+use Rattle.bounds.specs.Boards.{Board, void, cells, sound, lows, highs}
 use Rattle.bounds.specs.Scoped.{Scoped}
 use Rattle.linear.specs.declared.limits.Limits.{Limits}
 
@@ -13,10 +13,6 @@ abbrev pub weighed : List ℕ → List ℕ → ℕ
 weighed [] ns = 0
 weighed (w ∷ ws) [] = 0
 weighed (w ∷ ws) (n ∷ ns) = w * n + weighed ws ns
-
-abbrev pub highs : List Row → List ℕ
-highs [] = []
-highs (r ∷ rs) = r .high ∷ highs rs
 
 -- n / w rounded up
 abbrev pub over : ℕ → ℕ → ℕ

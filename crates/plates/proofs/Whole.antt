@@ -17,7 +17,7 @@ use Rattle.plates.specs.declared.frame.Frame.{Frame}
 use Rattle.plates.specs.Plates.{plate}
 use Rattle.plates.specs.Form.{feasible, frame-of, count-of, slots-of, variety-of, rows-of}
 use Rattle.plates.specs.Work.{Framed, Wrote}
-use Rattle.plates.proofs.Writes.{Compared, rows-differ}
+use Rattle.plates.proofs.Writes.{Differ, differ}
 use Rattle.plates.proofs.Exactness.{plate-exact}
 
 -- the counts, as the code cuts them off
@@ -53,7 +53,7 @@ cells-are x y cs s f h e =
 
 pub whole-outcome : (rows : List Row) → 2 ≤ length rows → sound rows ≡ true → (f : Frame) (a b : Row) (ys : List Row) (moved first second : Bool)
     → Framed (getD rows 0 none-row) (getD rows 1 none-row) (counts rows) (Some f) → a ≡ slots-of f → b ≡ variety-of f
-    → Wrote f (counts (headed rows a b)) ys moved → Compared a (getD rows 0 none-row) first → Compared b (getD rows 1 none-row) second
+    → Wrote f (counts (headed rows a b)) ys moved → Differ a (getD rows 0 none-row) first → Differ b (getD rows 1 none-row) second
     → Whole rows a b ys moved first second
 whole-outcome [] n s f a b ys moved first second g d e w u v = absurd (omega arith)
 whole-outcome (x ∷ []) n s f a b ys moved first second g d e w u v = absurd (omega arith)
@@ -64,13 +64,13 @@ whole-outcome (x ∷ (y ∷ cs)) n s f a b ys moved first second g d e w u v =
     let is : ys ≡ map (count-of f) cs = w .is ∙ ap (map (count-of f)) t in
     record {
       is = cells-are x y cs s f (z .0) (z .1) ∙ sym (ap cells all ∙ (λ i. cells (d i ∷ (e i ∷ is i))));
-      same = λ p q r. all ∙ (λ i. rows-differ a x first u .1 q i ∷ (rows-differ b y second v .1 r i ∷ (w .same p ∙ t) i));
+      same = λ p q r. all ∙ (λ i. differ a x first u .1 q i ∷ (differ b y second v .1 r i ∷ (w .same p ∙ t) i));
       other = λ c h. let k : a ∷ (b ∷ ys) ≡ x ∷ (y ∷ cs) = sym all ∙ h in
           elim c [
             | inl p ↦ w .other p (ap (λ (zs : List Row). drop 2 zs) k ∙ sym t)
             | inr c2 ↦ elim c2 [
-              | inl p ↦ rows-differ a x first u .0 p (ap (λ (zs : List Row). getD zs 0 none-row) k)
-              | inr p ↦ rows-differ b y second v .0 p (ap (λ (zs : List Row). getD zs 1 none-row) k)
+              | inl p ↦ differ a x first u .0 p (ap (λ (zs : List Row). getD zs 0 none-row) k)
+              | inr p ↦ differ b y second v .0 p (ap (λ (zs : List Row). getD zs 1 none-row) k)
             ]
           ];
     }

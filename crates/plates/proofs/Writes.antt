@@ -1,7 +1,7 @@
 -- A loop that writes f x over each row x, and notes whether one differs.
 use Prim.Native.Nat.{ℕ, _≤_, _<_, _+_}
 use mathlib.Core.Path.{_≡_, refl, sym, ap, _∙_}
-use mathlib.Core.Bool.{Bool, true, false, cond, not}
+use mathlib.Core.Bool.{Bool, true, false, not}
 use mathlib.Core.Logic.{_≢_, _⊎_, inl, inr}
 use mathlib.Core.List.{List, map}
 use native.Mathlib.Omega.{arith}
@@ -9,28 +9,21 @@ use borrow.Author.Count.{below-more}
 use lib.ListN.{length, getD, set}
 use lib.Seq.{getD-set-same, getD-set-other}
 use Rattle.std.proofs.shelf.Lists.{length-map, getD-map}
-use Rattle.std.proofs.shelf.Tests.{true≢false, false≢true, both-ways}
-use Rattle.std.specs.Orderings.{Decides}
+use Rattle.std.proofs.shelf.Tests.{true≢false}
 use Rattle.bounds.specs.declared.row.Row.{Row}
 use Rattle.bounds.specs.Boards.{none-row}
-use Rattle.bounds.proofs.Places.{same-row, same-rows}
+use Rattle.bounds.proofs.Places.{same-rows}
+use Rattle.rules.proofs.Compared.{Compared, rows-differ, rows-agree}
 use Rattle.plates.specs.declared.frame.Frame.{Frame}
 use Rattle.plates.specs.Form.{count-of}
 use Rattle.plates.specs.Work.{Wrote}
 
 -- what `!=` on rows says
-abbrev pub Compared : Row → Row → Bool → Type 0
-Compared a b r = (x : Bool)
-    × cond {A = Type 0} x (Decides true (a .low ≡ b .low) × Decides true (a .high ≡ b .high))
-    ((Decides false (a .low ≡ b .low) → ⊥) → (Decides false (a .high ≡ b .high) → ⊥) → ⊥)
-    × (r ≡ not x)
+abbrev pub Differ : Row → Row → Bool → Type 0
+Differ a b r = (x : Bool) × Compared a b x × (r ≡ not x)
 
-pub rows-differ : (a b : Row) (r : Bool) → Compared a b r → (r ≡ true → a ≢ b) × (r ≡ false → a ≡ b)
-rows-differ a b r (true, (p, q), e) = (λ t. absurd (both-ways r e t), λ _. same-row a b (p .0 refl) (q .0 refl))
-rows-differ a b r (false, h, e) = (
-  λ _ same. h (λ d. absurd (false≢true (d .1 (ap (λ (x : Row). x .low) same)))) (λ d. absurd (false≢true (d .1 (ap (λ (x : Row). x .high) same)))),
-  λ f. absurd (both-ways r f e),
-)
+pub differ : (a b : Row) (r : Bool) → Differ a b r → (r ≡ true → a ≢ b) × (r ≡ false → a ≡ b)
+differ a b r (x, h, e) = (λ t. rows-differ a b x h (sym t ∙ e), λ t. rows-agree a b x h (sym t ∙ e))
 
 -- the rows xs were there, and ys is there now, written below i
 pub record Writing (f : Row → Row) (xs ys : List Row) (i : ℕ) (b : Bool) : Type 0 where

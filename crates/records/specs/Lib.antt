@@ -1,2 +1,5 @@
 pub mod Bytes
 pub mod Records
+pub mod Forms
+pub mod Kinds
+pub mod Refusals

@@ -4,7 +4,7 @@ ghost use mathlib.Core.Path.{_≡_};
 ghost use lib.ListN.{getD};
 ghost use Rattle.records.specs.Bytes.{number};
 
-fn byte_at(file: &[u8], place: usize) -> u8
+pub fn byte_at(file: &[u8], place: usize) -> u8
     ensures { λ r. ⌜ r ≡ getD (now (file .entry)) place 0 ⌝ }
 {
     if place < file.len() { file[place] } else { 0 }

@@ -5,3 +5,5 @@ pub mod Kept
 pub mod Paths
 pub mod Firsts
 pub mod Determined
+pub mod Makes
+pub mod Scripted

@@ -19,7 +19,7 @@ use Rattle.run.specs.Promise.{Allowed, Encloses, InStep, Accounted, saved}
 use Rattle.run.proofs.Tightened.{holds, encloses, enclosed-cut, enclosed-none}
 
 -- a test that a granted call passed
-passed : (x : Bool) (n k : ℕ) → cond x n k ≡ 0 → 0 < k → (x ≡ true) × (n ≡ 0)
+pub passed : (x : Bool) (n k : ℕ) → cond x n k ≡ 0 → 0 < k → (x ≡ true) × (n ≡ 0)
 passed true n k e p = (refl, e)
 passed false n k e p = absurd (omega arith)
 

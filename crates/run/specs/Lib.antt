@@ -1,2 +1,4 @@
 pub mod Runs
 pub mod Promise
+pub mod Scripts
+pub mod Results

@@ -7,9 +7,9 @@ use lib.ListN.{getD}
 use Rattle.bounds.specs.declared.row.Row.{Row}
 use Rattle.bounds.specs.Boards.{Board, void, cells, sound, Real, Within, Lies, Fills, Fixed, width}
 use Rattle.bounds.specs.Laws.{Meaning}
-use Rattle.board.specs.Calls.{State, Trial, board, Event, refused, tightened, opened, kept, dropped, asked, settled, emptied, found, none-found}
+use Rattle.board.specs.Calls.{State, Trial, board, as-read, Event, refused, tightened, opened, kept, dropped, asked, settled, emptied, found, none-found}
 use Rattle.board.specs.Plans.{Plan, First, NoPlan, Still, AllAllowed, Widest}
-use Rattle.run.specs.Runs.{Leads, here, then, Run, call-in, Range, Note, Ledger, ledger, Tally, tally}
+use Rattle.run.specs.Runs.{Leads, here, then, Run, call-in, Range, Note, Ledger, ledger, tally}
 
 -- each count is in all ranges on its cell
 abbrev pub InRanges : List Range → List ℕ → Type 0
@@ -39,21 +39,21 @@ Newest m job gs s (kept k ∷ es) = Unit {0}
 Newest m job gs s (dropped k ∷ es) = Unit {0}
 Newest m job gs s (asked c l h ∷ es) = Unit {0}
 
--- The promise after the events es, which led to the state s; y is their tally.
-pub record Kept (m : Meaning) (job : List Row) (es : List Event) (s : State) (y : Tally) : Type 0 where
+-- The promise after a run, whose events es led to the state s.
+pub record Kept (m : Meaning) (job : List Row) (es : List Event) (s : State) (run : Run m job es s) : Type 0 where
   -- no plan within the job's bounds and the tightenings in force is lost
   pub plans : (p : List ℕ) → Plan m p → Allowed job (ledger es .in-force) p → Lies p (board s)
   pub newest : Newest m job (ledger es .in-force) s es
   -- the narrowings reported are at most the width that was there less the width that is left
-  pub bound : y .narrowings + width (board s) ≤ y .left
+  pub bound : tally run .narrowings + width (board s) ≤ tally run .left
 
 abbrev pub Promise : Meaning → Type 0
-Promise m = (job : List Row) → sound job ≡ true → (es : List Event) (s : State) (run : Run m job es s) → Kept m job es s (tally run)
+Promise m = (job : List Row) → sound job ≡ true → (es : List Event) (s : State) (run : Run m job es s) → Kept m job es s run
 
--- the promise, at the start and after each of the events
+-- the promise at the start, and after each of the events
 abbrev pub KeptThroughout : {m : Meaning} {job : List Row} {es : List Event} {s : State} → Run m job es s → Type 0
-KeptThroughout {m = m} {job = job} {s = s} here = Kept m job [] s (tally {m = m} {start = s} here)
-KeptThroughout {m = m} {job = job} (then {es = es} run e t d) = KeptThroughout run × Kept m job (e ∷ es) t (tally (then run e t d))
+KeptThroughout {m = m} {job = job} here = Kept m job [] (as-read job) here
+KeptThroughout {m = m} {job = job} (then {es = es} run e t d) = KeptThroughout run × Kept m job (e ∷ es) t (then run e t d)
 
 -- The calls determine the run: the answers and the states.
 abbrev pub Determined : Meaning → Type 0

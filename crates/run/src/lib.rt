@@ -1,1 +1,5 @@
-pub mod promise;
+pub mod answer;
+pub mod call;
+pub mod halted;
+pub mod script;
+pub mod step;

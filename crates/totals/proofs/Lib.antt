@@ -3,3 +3,4 @@ pub mod Lawful
 pub mod Outcomes
 pub mod Opened
 pub mod Scope
+pub mod Exactness

@@ -1,15 +1,16 @@
 -- What is known of new rows g and of the rows a, place by place.
-use Prim.Native.Nat.{ℕ, zero, suc, _<_, _≤_, _+_}
-use mathlib.Core.Path.{_≡_, refl, ap, subst}
+use Prim.Native.Nat.{ℕ, _<_, _≤_, _+_}
+use mathlib.Core.Path.{_≡_, ap}
 use mathlib.Core.Bool.{true, false}
 use mathlib.Core.Logic.{_≢_, inl, inr}
-use mathlib.Core.List.{List, [], _∷_}
+use mathlib.Core.List.{List}
 use native.Mathlib.Omega.{arith}
+use borrow.Author.Count.{below-more}
 use lib.ListN.{length, getD}
-use Rattle.std.proofs.shelf.Tests.{le-leb, and-from, cases-bool, cases-eq, cases-lt}
+use Rattle.std.proofs.shelf.Tests.{cases-bool}
 use Rattle.bounds.specs.declared.row.Row.{Row}
 use Rattle.bounds.specs.Boards.{sound, none-row}
-use Rattle.bounds.proofs.Places.{low-at, high-at, sound-at, same-rows}
+use Rattle.bounds.proofs.Places.{low-at, high-at, at-sound, sound-at, same-rows}
 use Rattle.board.specs.declared.change.Change.{Change}
 use Rattle.board.specs.declared.change.Change.the-variants.{Quiet, Narrowed, Void}
 use Rattle.totals.specs.Narrowing.{Outcome}
@@ -27,24 +28,17 @@ Told g a i Void = ⊥
 abbrev pub Far : List Row → List Row → ℕ → Change → Type 0
 Far g a i change = ((k : ℕ) → k < i → low-at g k ≤ high-at g k) × Told g a i change
 
-more : {P : ℕ → Type 0} (i : ℕ) → ((k : ℕ) → k < i → P k) → P i → (k : ℕ) → k < i + 1 → P k
-more {P = P} i h p k l = elim (cases-lt k i) [ inl m ↦ h k m | inr m ↦ subst P (omega arith) p ]
-
 pub far-none : (g a : List Row) → Far g a 0 Quiet
 far-none g a = (λ k h. absurd (omega arith), λ k h. absurd (omega arith))
 
 module _ (g a : List Row) (i : ℕ) where
   pub far-same : (c : Change) → Far g a i c → low-at g i ≤ high-at g i → getD g i none-row ≡ getD a i none-row → Far g a (i + 1) c
-  far-same Quiet f s e = (more i (f .0) s, more i (f .1) e)
-  far-same Narrowed f s e = (more i (f .0) s, λ h. f .1 (λ k l. h k (omega arith)))
+  far-same Quiet f s e = (below-more _ i (f .0) s, below-more _ i (f .1) e)
+  far-same Narrowed f s e = (below-more _ i (f .0) s, λ h. f .1 (λ k l. h k (omega arith)))
   far-same Void f s e = absurd (f .1)
 
   pub far-other : (c : Change) → Far g a i c → low-at g i ≤ high-at g i → getD g i none-row ≢ getD a i none-row → Far g a (i + 1) Narrowed
-  far-other c f s d = (more i (f .0) s, λ h. d (h i (omega arith)))
-
-at-sound : (g : List Row) → ((k : ℕ) → k < length g → low-at g k ≤ high-at g k) → sound g ≡ true
-at-sound [] h = refl
-at-sound (r ∷ g) h = and-from _ _ (le-leb (r .low) (r .high) (h 0 (omega arith))) (at-sound g (λ k l. h (suc k) (omega arith)))
+  far-other c f s d = (below-more _ i (f .0) s, λ h. d (h i (omega arith)))
 
 module _ (g a : List Row) (e : length g ≡ length a) where
   pub far-all : (i : ℕ) (c : Change) → length a ≤ i → Far g a i c → Outcome g a c

@@ -1,2 +1,3 @@
 pub mod family;
 pub mod total;
+pub mod worked;

@@ -1,26 +1,21 @@
--- Arrays of rows: their elements, and whether each holds a count.
-use Prim.Native.Nat.{ℕ, zero, suc, _≤_, _<_}
+-- Arrays of rows.
+use Prim.Native.Nat.{ℕ, _<_}
 use mathlib.Core.Path.{_≡_, refl, sym, ap, _∙_}
-use mathlib.Core.Bool.{Bool, true, false}
+use mathlib.Core.Bool.{Bool, false}
+use mathlib.Core.Logic.{inl, inr}
 use mathlib.Core.List.{List, [], _∷_}
 use native.Mathlib.Omega.{arith}
 use lib.ListN.{length, getD}
-use Rattle.std.proofs.shelf.Tests.{and-from, le-leb, lt-leb, and-left, and-right}
+use Rattle.std.proofs.shelf.Tests.{cases-bool}
 use Rattle.bounds.specs.declared.row.Row.{Row}
 use Rattle.bounds.specs.Boards.{Board, sound, none-row}
 use Rattle.bounds.specs.Exact.{exact}
-use Rattle.bounds.proofs.Places.{low-at, high-at}
+use Rattle.bounds.proofs.Places.{low-at, high-at, sound-at}
 use Rattle.triples.proofs.Frames.{three}
 use Rattle.triples.proofs.Closed.{two}
 
-pub at-sound : (a : List Row) → ((i : ℕ) → i < length a → low-at a i ≤ high-at a i) → sound a ≡ true
-at-sound [] h = refl
-at-sound (r ∷ a) h = and-from _ _ (le-leb _ _ (h 0 (omega arith))) (at-sound a (λ i l. h (suc i) (omega arith)))
-
 pub at-unsound : (a : List Row) (i : ℕ) → i < length a → high-at a i < low-at a i → sound a ≡ false
-at-unsound [] i l h = absurd (omega arith)
-at-unsound (r ∷ a) zero l h = and-left _ _ (lt-leb _ _ h)
-at-unsound (r ∷ a) (suc i) l h = and-right _ _ (at-unsound a i (omega arith) h)
+at-unsound a i l h = elim (cases-bool (sound a)) [ inl s ↦ absurd (omega (arith, sound-at a s i l)) | inr n ↦ n ]
 
 pub as-two : (a : List Row) → length a ≡ 2 → a ≡ two (getD a 0 none-row) (getD a 1 none-row)
 as-two [] e = absurd (omega arith)

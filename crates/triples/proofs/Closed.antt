@@ -12,7 +12,7 @@ use Rattle.bounds.specs.Cells.{common}
 use Rattle.bounds.specs.Exact.{exact}
 use Rattle.bounds.proofs.Places.{sound-at}
 use Rattle.bounds.proofs.Hulls.{Meeting}
-use Rattle.triples.specs.Triples.{makes, relation}
+use Rattle.triples.specs.Triples.{relation}
 use Rattle.triples.specs.declared.kind.TripleKind.the-variants.{Union, Intersection, UnionPlus, Subset}
 use Rattle.triples.proofs.Frames.{In, Reached, exact-reached, three, Sound, Narrowed, exact-three}
 

@@ -7,10 +7,10 @@ use native.Mathlib.Omega.{arith}
 use lib.ListN.{length, getD}
 use Rattle.std.proofs.shelf.Tests.{eqb-true, eq-eqb}
 use Rattle.bounds.specs.declared.row.Row.{Row}
-use Rattle.bounds.specs.Boards.{void, cells, sound, Fills}
+use Rattle.bounds.specs.Boards.{void, cells, sound, Fills, none-row}
 use Rattle.bounds.specs.Exact.{exact}
-use Rattle.bounds.proofs.Places.{low-at, high-at, sound-at}
-use Rattle.bounds.proofs.Hulls.{Tight, Meeting}
+use Rattle.bounds.proofs.Places.{low-at, sound-at}
+use Rattle.bounds.proofs.Hulls.{Meeting}
 use Rattle.bounds.proofs.Exactly.{exact-by}
 use Rattle.triples.specs.Triples.{makes}
 
@@ -21,7 +21,7 @@ In n r = (r .low ≤ n) × (n ≤ r .high)
 module _ (meets : List ℕ → Bool) (a g : List Row) where
   -- any count of a narrowed row is that of a meeting filling
   abbrev pub Reached : Type 0
-  Reached = (i : ℕ) → i < length g → (n : ℕ) → In n (getD g i (record { low = 0; high = 0 })) → (p : List ℕ) × Meeting meets a p × (getD p i 0 ≡ n)
+  Reached = (i : ℕ) → i < length g → (n : ℕ) → In n (getD g i none-row) → (p : List ℕ) × Meeting meets a p × (getD p i 0 ≡ n)
 
   pub exact-reached : 0 < length g → ((p : List ℕ) → Meeting meets a p → Fills p g) → (sound g ≡ true → Reached)
       → exact meets a ≡ cond (sound g) (cells g) void

@@ -1,12 +1,12 @@
 -- What `==` on rows says: whether they are the same.
-use mathlib.Core.Path.{_≡_, refl, sym, ap, ap₂, subst}
+use mathlib.Core.Path.{_≡_, refl, ap, ap₂, subst}
 use mathlib.Core.Bool.{Bool, true, false}
 use mathlib.Core.Logic.{inl, inr}
 use mathlib.Core.List.{List, [], _∷_}
 use lib.ListN.{length}
 use Rattle.std.specs.Lexical.{Matches, Same, Apart}
 use Rattle.std.specs.Orderings.{Decides}
-use Rattle.std.proofs.shelf.Tests.{false≢true, true≢false}
+use Rattle.std.proofs.shelf.Tests.{false≢true}
 use Rattle.bounds.specs.declared.row.Row.{Row}
 use Rattle.bounds.specs.contracts.row.RowPartialEq.the-impl.{ghosts}
 use Rattle.bounds.proofs.Places.{same-row}

@@ -1,5 +1,4 @@
 // A triple as a rule that names its cells.
-ghost use Prim.Native.Nat.{ℕ};
 ghost use mathlib.Core.Path.{_≡_};
 ghost use lib.ListN.{length};
 ghost use Rattle.board.specs.Narrows.{Narrows};

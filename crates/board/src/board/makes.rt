@@ -1,5 +1,6 @@
 // What makes a board of memory, and gives the memory back.
 ghost use mathlib.Core.Path.{_≡_};
+ghost use lib.ListN.{length, take};
 ghost use Rattle.bounds.specs.Boards.{sound};
 ghost use Rattle.board.specs.Makes.{unfit, Makes};
 use super::Board;
@@ -11,7 +12,7 @@ use bounds::row::Row;
 
 const MOST_CELLS: usize = 1024;
 
-fn all_sound(rows: &[Row]) -> bool
+pub fn all_sound(rows: &[Row]) -> bool
     ensures { λ r. ⌜ r ≡ sound (now (rows .entry)) ⌝ }
 {
     for row in rows {
@@ -23,7 +24,7 @@ fn all_sound(rows: &[Row]) -> bool
 }
 
 fn fault(rows: &[Row], saved: &[Row], cells: usize) -> Option<Unfit>
-    ensures { λ r. ⌜ r ≡ unfit (now (rows .entry)) (now (saved .entry)) cells ⌝ }
+    ensures { λ r. ⌜ r ≡ unfit cells (take cells (now (rows .entry))) (length (now (rows .entry))) (length (now (saved .entry))) ⌝ }
 {
     if cells < 1 || cells > MOST_CELLS {
         return Some(Unfit::Size);

@@ -1,5 +1,4 @@
 use mathlib.Core.Path.{sym}
-use native.Mathlib.Omega.{arith}
 use Rattle.triples.proofs.Arrays.{as-three}
 use Rattle.triples.proofs.named.three.Needs as need
 

@@ -1,5 +1,4 @@
 use mathlib.Core.Path.{sym}
-use native.Mathlib.Omega.{arith}
 use Rattle.triples.proofs.Arrays.{as-two}
 use Rattle.triples.proofs.named.two.Needs as need
 

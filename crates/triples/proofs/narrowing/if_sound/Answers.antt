@@ -1,7 +1,8 @@
 use mathlib.Core.Path.{sym}
 use native.Mathlib.Omega.{arith}
 use Rattle.std.proofs.shelf.Tests.{cond-true, cond-false}
-use Rattle.triples.proofs.Arrays.{at-sound, at-unsound}
+use Rattle.bounds.proofs.Places.{at-sound}
+use Rattle.triples.proofs.Arrays.{at-unsound}
 use Rattle.triples.proofs.narrowing.if_sound.Needs as need
 
 pub returns : need.returns

@@ -1,0 +1,7 @@
+use mathlib.Core.Path.{_≡_}
+use denote.Ref.{now}
+use Rattle.job.proofs.Gathering.{Gathering}
+use Rattle.job.proofs.job.Job.read.Given as given
+
+abbrev pub Inv-loop-i : given.InvT-loop-i
+Inv-loop-i l = Gathering (l .file) (l .contents .count) (l .i) (l .tally) (l .places)
