@@ -26,5 +26,5 @@ returns c =
     let cs = job-found j .cells in
     let i = c .args .number in
     let (here, is) = subst (λ (o : Option Row). Cases o (length cs ≤ i) (λ row. (i < length cs) × (row ≡ row-at (job-file j) (getD cs i 0))))
-        (c .unwrap .ensures) (c .cell .ensures) in
+    (c .unwrap .ensures) (c .cell .ensures) in
     is ∙ sym (getD-map (row-at (job-file j)) cs i 0 none-row here)
