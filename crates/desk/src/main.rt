@@ -29,7 +29,8 @@ use triples::family::TriplesFamily;
 // The desk has room for every board.
 const MOST_CELLS: u16 = 1024;
 
-const HELP: &str = "tighten CELL LOW HIGH\nopen\nkeep SERIAL\ndrop SERIAL\nask CELL\nsettle\nseek\nhelp\n";
+const HELP: &str =
+    "tighten CELL LOW HIGH\nopen\nkeep SERIAL\ndrop SERIAL\nask CELL\nsettle\nseek\nhelp\n";
 
 fn main(rt: LibcRuntime) -> Result<(), AnyError> {
     let Some(path) = env::args(&rt)?.nth(1) else {
