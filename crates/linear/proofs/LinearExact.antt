@@ -1,12 +1,12 @@
 -- Where the floor or the ceiling alone can bind, a linear constraint is narrowed exactly.
 use Prim.Native.Nat.{ℕ, _≤_, _<_, _+_, _-_, _*_, _/_, min, max}
-use mathlib.Core.Path.{_≡_, sym, ap, _∙_}
+use mathlib.Core.Path.{_≡_, ap, _∙_}
 use mathlib.Core.Bool.{true}
 use mathlib.Core.Logic.{inl, inr}
 use mathlib.Core.List.{List}
 use native.Mathlib.Omega.{arith}
 use native.Mathlib.Nat.{mul-le-mul-left}
-use lib.ListN.{length, getD, set, length-set}
+use lib.ListN.{length, getD, set}
 use Rattle.std.proofs.shelf.Tests.{both-ways, le-leb, leb-true, and-parts, and-from}
 use Rattle.std.proofs.shelf.Lists.{getD-set-same}
 use Rattle.bounds.specs.declared.row.Row.{Row}

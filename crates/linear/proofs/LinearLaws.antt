@@ -1,22 +1,22 @@
 -- The laws of a linear constraint's narrowing.
-use Prim.Native.Nat.{ℕ, _≤_, _<_, _+_, _-_, _*_, _/_}
-use mathlib.Core.Path.{_≡_, refl, sym, ap, _∙_, subst}
-use mathlib.Core.Bool.{Bool, true, false, cond, _&&_, _||_}
+use Prim.Native.Nat.{ℕ, _≤_, _<_, _+_, _-_, _*_}
+use mathlib.Core.Path.{_≡_, refl, sym, ap, _∙_}
+use mathlib.Core.Bool.{Bool, true, false, _||_}
 use mathlib.Core.Logic.{_⊎_, inl, inr}
 use mathlib.Core.List.{List, [], _∷_}
 use native.Mathlib.Omega.{arith}
 use native.Mathlib.Nat.{mul-le-mul-left}
 use lib.Dec.{ltb, leb}
 use lib.ListN.{length}
-use Rattle.std.proofs.shelf.Tests.{cond-both, cond-true, cond-false, both-ways, ltb-true, ltb-false, lt-ltb, le-ltb, leb-true, leb-false, and-parts, and-cases, or-cases, or-parts, or-from, or-left, or-right}
+use Rattle.std.proofs.shelf.Tests.{cond-both, cond-true, both-ways, ltb-true, ltb-false, lt-ltb, leb-true, leb-false, and-parts, and-cases, or-cases, or-parts, or-left, or-right}
 use Rattle.bounds.specs.declared.row.Row.{Row}
 use Rattle.bounds.specs.Boards.{Board, void, cells, sound, Real, Within, Inside, Fills, Lies, Fixed, lows, highs}
 use Rattle.bounds.specs.Scoped.{ScopedLaws}
 use Rattle.bounds.proofs.Places.{fills-inside, fills-sound}
 use Rattle.bounds.proofs.Rows.{sound-parts, fills-lows}
 use Rattle.linear.specs.declared.limits.Limits.{Limits}
-use Rattle.linear.specs.Linear.{weighed, over, limits, bounded, all-bounded, board-of, bounded-sum, sum-within, linear}
-use Rattle.linear.proofs.Quotients.{div-weighs, div-greatest, div-mono, over-weighs, over-least, over-mono}
+use Rattle.linear.specs.Linear.{weighed, limits, all-bounded, board-of, bounded-sum, sum-within, linear}
+use Rattle.linear.proofs.Quotients.{div-greatest, div-mono, over-least, over-mono}
 use Rattle.linear.proofs.Weights.{Positive, weighed-fills, weighed-inside, fixed-ends}
 
 module _ (l : Limits) where

@@ -1,15 +1,14 @@
 -- The laws of the totals of a job file.
 use Prim.Native.Nat.{ℕ, _<_, _≤_}
 use mathlib.Core.Path.{_≡_, refl, sym, ap, _∙_}
-use mathlib.Core.Bool.{Bool, true, false, cond, _&&_}
+use mathlib.Core.Bool.{true, false, _&&_}
 use mathlib.Core.Logic.{inl, inr}
-use mathlib.Core.List.{List, [], _∷_, map}
+use mathlib.Core.List.{List, [], _∷_}
 use native.Mathlib.Omega.{arith}
 use lib.Dec.{leb}
 use lib.ListN.{length, length-map}
 use Rattle.std.proofs.shelf.Tests.{cond-both, cond-true, cond-false, cases-bool, both-ways, leb-true, and-parts}
 use Rattle.records.specs.Records.{Term, Total, total-at}
-use Rattle.bounds.specs.declared.row.Row.{Row}
 use Rattle.bounds.specs.Scoped.{Scoped, ScopedLaws}
 use Rattle.bounds.specs.Laws.{FiveLaws}
 use Rattle.bounds.proofs.Rows.{inside-all}

@@ -21,7 +21,7 @@ abbrev pub weights-lawful : List ℕ → Bool
 weights-lawful [] = true
 weights-lawful (w ∷ ws) = leb 1 w && leb w 1000000 && weights-lawful ws
 
--- 1 to 64 cells, each with a weight from 1 to 1,000,000, and a floor of at most the ceiling
+-- 1 to 64 cells, each with a weight from 1 to 1,000,000; a floor of at most the ceiling, and that of at most 10,000,000,000,000
 abbrev pub lawful : Total → Bool
 lawful t = leb 1 (length (t .terms)) && leb (length (t .terms)) 64 && weights-lawful (weights-of (t .terms))
     && leb (t .floor) (t .ceiling) && leb (t .ceiling) 10000000000000

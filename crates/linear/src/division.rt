@@ -16,3 +16,19 @@ pub fn div_up(dividend: i64, divisor: u32) -> i64
         quotient
     }
 }
+
+#[cfg(test)]
+mod tests {
+    use super::*;
+    use std::test::*;
+
+    #[test]
+    fn rounds_toward_the_greater() -> Result<(), Fail> {
+        check_eq(div_up(7, 2), 4)?;
+        check_eq(div_up(6, 2), 3)?;
+        check_eq(div_up(-7, 2), -3)?;
+        check_eq(div_up(-1, 1_000_000), 0)?;
+        check_eq(div_up(i64::MIN, 1), i64::MIN)?;
+        check_eq(div_up(i64::MAX, 2), 4_611_686_018_427_387_904)
+    }
+}

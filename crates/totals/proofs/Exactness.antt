@@ -1,13 +1,13 @@
 -- A total that is narrowed exactly on its own rows is narrowed exactly on the board.
 use mathlib.Core.Path.{_≡_, refl, sym, ap, subst, _∙_}
-use mathlib.Core.Bool.{true, cond}
+use mathlib.Core.Bool.{true}
 use mathlib.Core.Logic.{inl, inr}
 use mathlib.Core.List.{List, []}
 use lib.ListN.{length}
 use Rattle.std.proofs.shelf.Tests.{cases-bool, cond-true, cond-false}
 use Rattle.records.specs.Records.{Total}
 use Rattle.bounds.specs.declared.row.Row.{Row}
-use Rattle.bounds.specs.Boards.{Board, cells, sound, none-row}
+use Rattle.bounds.specs.Boards.{Board, sound, none-row}
 use Rattle.bounds.specs.Exact.{exact}
 use Rattle.bounds.specs.Scoped.{Scoped, distinct, fits, gather, put, on-board, exact-on}
 use Rattle.bounds.proofs.Scopes.{length-gather}

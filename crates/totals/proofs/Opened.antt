@@ -1,6 +1,6 @@
 -- The cells of a total that can still be met, place by place.
 use Prim.Native.Nat.{ℕ, _<_, _≤_, _*_}
-use mathlib.Core.Path.{_≡_, sym, ap, ap₂, subst, _∙_}
+use mathlib.Core.Path.{_≡_, sym, ap, ap₂, _∙_}
 use mathlib.Core.List.{List}
 use native.Mathlib.Omega.{arith}
 use lib.ListN.{length, getD, length-map}

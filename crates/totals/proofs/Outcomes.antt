@@ -1,7 +1,7 @@
 -- What is known of new rows g and of the rows a, place by place.
 use Prim.Native.Nat.{ℕ, _<_, _≤_, _+_}
 use mathlib.Core.Path.{_≡_, ap}
-use mathlib.Core.Bool.{true, false}
+use mathlib.Core.Bool.{false}
 use mathlib.Core.Logic.{_≢_, inl, inr}
 use mathlib.Core.List.{List}
 use native.Mathlib.Omega.{arith}

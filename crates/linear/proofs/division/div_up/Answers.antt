@@ -1,4 +1,4 @@
-use Prim.Native.Nat.{ℕ, _<_, _≤_, _^_, _/_, _*_}
+use Prim.Native.Nat.{ℕ, _<_, _≤_, _^_, _/_}
 use mathlib.Core.Path.{_≡_, sym, ap, ap₂, _∙_, subst}
 use mathlib.Core.Bool.{true, false}
 use native.Mathlib.Omega.{arith}

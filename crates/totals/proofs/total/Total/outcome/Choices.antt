@@ -1,6 +1,3 @@
-use Prim.Native.Nat.{ℕ, _<_, _≤_}
-use lib.ListN.{getD}
-use Rattle.bounds.specs.Boards.{none-row}
 use Rattle.totals.specs.Narrowing.{new-rows}
 use Rattle.totals.proofs.Outcomes.{Far}
 use Rattle.totals.proofs.total.Total.outcome.Given as given

@@ -1,7 +1,6 @@
 use Prim.Native.Nat.{_<_}
 use mathlib.Core.Path.{sym, ap, subst, _∙_}
 use native.Mathlib.Omega.{arith}
-use lib.ListN.{length}
 use Rattle.records.specs.Bytes.{number}
 use Rattle.totals.proofs.Terms.{terms-length, weight-at}
 use Rattle.totals.proofs.total.Total.weight.Needs as need
