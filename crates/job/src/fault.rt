@@ -84,7 +84,7 @@ pub impl From<ByteFault> for ContentsFault as ContentsFromBytes {
     ghost converts = { λ b r. r ≡ Bytes b };
 
     fn from(fault: ByteFault) -> ContentsFault {
-        ContentsFault::Bytes(fault)
+        Self::Bytes(fault)
     }
 }
 
@@ -92,7 +92,7 @@ pub impl From<ContentsFault> for JobFault as JobFromContents {
     ghost converts = { λ b r. r ≡ Contents b };
 
     fn from(fault: ContentsFault) -> JobFault {
-        JobFault::Contents(fault)
+        Self::Contents(fault)
     }
 }
 
@@ -100,6 +100,6 @@ pub impl From<RecordFault> for JobFault as JobFromRecord {
     ghost converts = { λ b r. r ≡ Record b };
 
     fn from(fault: RecordFault) -> JobFault {
-        JobFault::Record(fault)
+        Self::Record(fault)
     }
 }

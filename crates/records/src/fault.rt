@@ -67,6 +67,6 @@ pub impl From<ByteFault> for RecordFault as RecordFromBytes {
     ghost converts = { λ b r. r ≡ Bytes b };
 
     fn from(fault: ByteFault) -> RecordFault {
-        RecordFault::Bytes(fault)
+        Self::Bytes(fault)
     }
 }
