@@ -2,7 +2,11 @@
 ghost use Prim.Native.Nat.{_≤_};
 ghost use mathlib.Core.Path.{_≡_};
 ghost use lib.ListN.{length};
+ghost use mathlib.Core.Bool.{cond};
+ghost use mathlib.Core.List.{[]};
+ghost use Rattle.std.specs.Of.Vec.{vec-items};
 ghost use Rattle.std.specs.Vec.{made};
+ghost use Rattle.board.specs.Held.{state};
 ghost use Rattle.console.specs.Reports.{Told, no-room, refused-report};
 use crate::families::rules_of;
 use crate::room::Room;
@@ -79,7 +83,9 @@ fn room_refused(file: &[u8]) -> Refused
 }
 
 // A row for each cell, none on a void board.
-fn bounds_left(heap: Global, board: &Board) -> Result<Vec<Row>, AllocError> {
+fn bounds_left(heap: Global, board: &Board) -> Result<Vec<Row>, AllocError>
+    ensures { λ r. ⌜ made r (λ v. vec-items v ≡ cond (state (now (board .entry)) .is-void) [] (state (now (board .entry)) .rows)) ⌝ }
+{
     if board.is_void() {
         return Ok(Vec::new(heap));
     }
