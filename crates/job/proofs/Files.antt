@@ -1,19 +1,17 @@
 -- The file of sections: its contents, and where its bodies stand.
-use Prim.Native.Nat.{ℕ, zero, suc, _+_, _*_, _≤_, _<_}
-use mathlib.Core.Path.{_≡_, refl, ap, sym, _∙_, subst}
-use mathlib.Core.Bool.{Bool, true, false, _&&_, not, cond}
-use mathlib.Core.List.{List, [], _∷_, _++_, map, append-assoc}
+use Prim.Native.Nat.{ℕ, _+_, _*_, _<_}
+use mathlib.Core.Path.{_≡_, refl, ap, sym, _∙_}
+use mathlib.Core.Bool.{Bool, true, cond}
+use mathlib.Core.List.{List, [], _∷_, _++_, append-assoc}
 use native.Mathlib.Omega.{arith}
-use lib.Dec.{eqb, leb}
 use lib.ListN.{length, getD, take, drop}
 use Rattle.std.specs.shelf.Lists.{joined}
-use Rattle.std.specs.declared.option.Option.{Option}
 use Rattle.std.specs.declared.option.Option.the-variants.{Some, None}
 use Rattle.std.proofs.shelf.Lists.{length-append, getD-at, drop-at, take-at}
 use Rattle.std.proofs.shelf.Tests.{eq-eqb, le-leb, and-from}
 use Rattle.records.specs.Refusals.{line}
 use Rattle.job.specs.declared.entry.Entry.{Entry}
-use Rattle.job.specs.Contents.{entry-at, entries-from, ends, misplaced}
+use Rattle.job.specs.Contents.{entries-from, ends, misplaced}
 use Rattle.job.specs.Reading.{body}
 use Rattle.job.specs.Written.{Section, content, listing, bytes}
 use Rattle.job.proofs.Codecs.{field}

@@ -1,19 +1,17 @@
 -- The bodies one after another: what is left of them decides, and what was found is held.
 use Prim.Native.Nat.{ℕ, zero, suc, _<_, _≤_, _+_, _*_, _-_, min}
-use mathlib.Core.Path.{_≡_, refl, ap, sym, _∙_, subst}
+use mathlib.Core.Path.{_≡_, refl, ap, sym, _∙_}
 use mathlib.Core.Bool.{Bool, true, false, cond}
-use mathlib.Core.Logic.{_⊎_, inl, inr}
+use mathlib.Core.Logic.{inl, inr}
 use mathlib.Core.List.{List, [], _∷_, _++_, map}
 use native.Mathlib.Omega.{arith}
 use lib.Dec.{ltb}
 use lib.ListN.{length, take, drop, getD}
-use Rattle.std.specs.declared.option.Option.{Option}
-use Rattle.std.specs.declared.option.Option.the-variants.{Some, None}
 use Rattle.std.proofs.shelf.Lists.{length-take, length-drop, take-take, take-append-le, drop-all, drop-at, length-take-le, take-all, drop-take}
 use Rattle.std.proofs.shelf.Tests.{cases-lt}
 use Rattle.records.specs.Forms.{cells-form}
 use Rattle.job.specs.declared.tally.Tally.{Tally}
-use Rattle.job.specs.Reading.{Found, records, body-records, rules, found}
+use Rattle.job.specs.Reading.{records, rules, found}
 use Rattle.job.specs.Tallies.{spaced, held, tallied}
 
 pub length-spaced : (n i : ℕ) → length (spaced n i) ≡ n

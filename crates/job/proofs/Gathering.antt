@@ -1,22 +1,21 @@
 -- The reading, body by body: what is left of it decides.
 use Prim.Native.Nat.{ℕ, zero, suc, _<_, _≤_, _+_, _*_, _-_}
 use mathlib.Core.Path.{_≡_, refl, ap, sym, _∙_, subst}
-use mathlib.Core.Bool.{Bool, true, false, _&&_, not, cond}
-use mathlib.Core.Logic.{_⊎_, inl, inr}
-use mathlib.Core.List.{List, [], _∷_, _++_, map}
+use mathlib.Core.Bool.{Bool, true, false}
+use mathlib.Core.Logic.{inl, inr}
+use mathlib.Core.List.{List, _∷_, map}
 use native.Mathlib.Omega.{arith}
-use lib.Dec.{ltb, leb}
-use lib.ListN.{length, take, drop, getD, replicate}
+use lib.Dec.{leb}
+use lib.ListN.{length, getD}
 use Rattle.std.specs.declared.option.Option.{Option}
 use Rattle.std.specs.declared.option.Option.the-variants.{Some, None}
-use Rattle.std.proofs.shelf.Tests.{cases-lt, cases-eq, lt-ltb, cases-bool, ltb-false, not-false, and-parts, leb-true, cond-both}
+use Rattle.std.proofs.shelf.Tests.{cases-lt, cases-eq, ltb-false, not-false, and-parts, leb-true, cond-both}
 use Rattle.records.specs.Forms.{Form, cells-form, between}
-use Rattle.records.specs.Refusals.{line}
 use Rattle.records.specs.declared.refused.Refused.{Refused}
 use Rattle.job.specs.declared.entry.Entry.{Entry}
 use Rattle.job.specs.declared.tally.Tally.{Tally}
 use Rattle.job.specs.Contents.{entry-at, entries, entries-from, misordered, misplaced, first, when, long, short, miscounted, contents-fault, contents-end}
-use Rattle.job.specs.Reading.{Found, Reading, refused, granted, unless, body, form-of, body-records, record-faults, rules, found, nothing, bodies, reading}
+use Rattle.job.specs.Reading.{Found, Reading, refused, granted, unless, body, form-of, body-records, record-faults, found, nothing, bodies, reading}
 use Rattle.job.specs.Tallies.{spaced, held, tallied, no-tally}
 use Rattle.job.specs.Walked.{Walked}
 use Rattle.job.proofs.Listings.{left, left-more, kind-on, kind-off, place-on, place-off}

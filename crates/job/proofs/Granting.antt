@@ -1,24 +1,24 @@
 -- The reading of a file of sections, body by body.
-use Prim.Native.Nat.{ℕ, zero, suc, _+_, _*_, _≤_, _<_}
+use Prim.Native.Nat.{ℕ, _+_, _*_, _≤_}
 use mathlib.Core.Path.{_≡_, refl, ap, sym, _∙_, subst}
-use mathlib.Core.Bool.{Bool, true, false, _&&_, not, cond}
+use mathlib.Core.Bool.{Bool, true, not, cond}
 use mathlib.Core.List.{List, [], _∷_, _++_, map, append-assoc}
 use native.Mathlib.Omega.{arith}
-use lib.Dec.{ltb, leb}
-use lib.ListN.{length, getD, take, drop}
+use lib.Dec.{leb}
+use lib.ListN.{length}
 use Rattle.std.specs.shelf.Lists.{joined}
 use Rattle.std.specs.declared.option.Option.{Option}
-use Rattle.std.specs.declared.option.Option.the-variants.{Some, None}
-use Rattle.std.proofs.shelf.Lists.{length-append, length-map}
+use Rattle.std.specs.declared.option.Option.the-variants.{None}
+use Rattle.std.proofs.shelf.Lists.{length-append}
 use Rattle.std.proofs.shelf.Tests.{le-ltb, le-leb, and-from}
-use Rattle.records.specs.Forms.{Form, between}
+use Rattle.records.specs.Forms.{between}
 use Rattle.records.specs.Refusals.{line}
 use Rattle.records.specs.declared.refused.Refused.{Refused}
 use Rattle.job.specs.declared.entry.Entry.{Entry}
-use Rattle.job.specs.Contents.{entries, entries-from, first, when, long, short, miscounted, misordered, misplaced, contents-end, contents-fault}
-use Rattle.job.specs.Reading.{Found, Reading, granted, unless, body, form-of, body-records, record-faults, rules, found, nothing, bodies, reading}
+use Rattle.job.specs.Contents.{entries, first, when, long, short, miscounted, misordered, misplaced, contents-end, contents-fault}
+use Rattle.job.specs.Reading.{Found, granted, unless, body, form-of, body-records, record-faults, rules, found, nothing, bodies, reading}
 use Rattle.job.specs.Written.{Section, content, listing, filed, Each}
-use Rattle.job.proofs.Strings.{Good, offsets, all, body-offsets, faultless, length-offsets}
+use Rattle.job.proofs.Strings.{Good, offsets, all, body-offsets, faultless}
 use Rattle.job.proofs.Files.{listed, entries-listed, laid-out, length-listing, body-is}
 
 -- the places of the records of a section that starts at a place

@@ -1,24 +1,23 @@
 -- Each refusal tells of a fault of the file.
-use Prim.Native.Nat.{ℕ, zero, suc, _+_, _*_, _<_, _≤_, _-_}
+use Prim.Native.Nat.{ℕ, zero, suc, _+_, _*_, _<_, _-_}
 use mathlib.Core.Path.{_≡_, refl, ap, sym, _∙_, subst}
 use mathlib.Core.Logic.{_⊎_, inl, inr}
 use mathlib.Core.Bool.{Bool, true, false, _&&_, not, cond}
-use mathlib.Core.List.{List, [], _∷_, map}
+use mathlib.Core.List.{List, [], _∷_}
 use native.Mathlib.Omega.{arith}
 use lib.Dec.{ltb, leb, eqb}
 use lib.ListN.{length, getD}
 use Rattle.std.specs.declared.option.Option.{Option}
 use Rattle.std.specs.declared.option.Option.the-variants.{Some, None}
 use Rattle.std.proofs.shelf.Tests.{ltb-true, ltb-false, leb-false, eqb-false, not-true, and-cases, both-ways, cases-order}
-use Rattle.bounds.specs.Scoped.{fits, distinct}
+use Rattle.bounds.specs.Scoped.{fits}
 use Rattle.records.specs.Forms.{Form, between}
 use Rattle.records.specs.Refusals.{line}
 use Rattle.records.specs.declared.refused.Refused.{Refused}
-use Rattle.job.specs.declared.entry.Entry.{Entry}
-use Rattle.job.specs.Contents.{entry-at, entries, entries-from, first, when, ends, contents-end, contents-fault}
+use Rattle.job.specs.Contents.{entries, entries-from, first, when, ends, contents-end, contents-fault}
 use Rattle.job.specs.Contents as contents
-use Rattle.job.specs.Reading.{Found, Reading, refused, granted, unless, body, form-of, body-records, record-fault, record-faults, rules, found, nothing, bodies, reading}
-use Rattle.job.specs.Told.{Told, long, short, uncounted, misnamed, misplaced, overruns, breaks, repeats, entry, form-at, body-at, records-at, Misnamed, Misplaced, due, before, at-record, Overruns, Breaks, Repeats}
+use Rattle.job.specs.Reading.{Found, Reading, refused, granted, unless, body, record-fault, record-faults, rules, nothing, bodies, reading}
+use Rattle.job.specs.Told.{Told, long, short, uncounted, misnamed, misplaced, overruns, breaks, repeats, entry, form-at, body-at, records-at, Misnamed, Misplaced, due, before, Breaks}
 
 never : {A : Type 0} (x : Refused) → _≡_ {A = Option Refused} None (Some x) → A
 never x e = let z : _≡_ {A = ℕ} 0 1 = cc in absurd (omega arith)

@@ -1,21 +1,20 @@
 -- The file of lawful records is granted, and reads as those records.
-use Prim.Native.Nat.{ℕ, zero, suc, _+_, _*_, _≤_, _<_}
+use Prim.Native.Nat.{ℕ, _+_, _*_, _≤_}
 use mathlib.Core.Path.{_≡_, refl, ap, sym, _∙_, subst}
 use mathlib.Core.List.{List, [], _∷_, _++_, map}
 use native.Mathlib.Omega.{arith}
 use lib.ListN.{length}
-use Rattle.std.specs.shelf.Lists.{joined}
 use Rattle.std.specs.declared.option.Option.the-variants.{None}
 use Rattle.std.proofs.shelf.Lists.{length-append, length-map}
 use Rattle.records.specs.Records.{Bounds, Plate, Triple, Total, plate-at, triple-at, total-at, bounds-at}
-use Rattle.records.specs.Forms.{Form, cells-form, plates-form, triples-form, totals-form}
+use Rattle.records.specs.Forms.{cells-form, plates-form, triples-form, totals-form}
 use Rattle.records.specs.declared.refused.Refused.{Refused}
 use Rattle.job.specs.Contents.{misordered}
 use Rattle.job.specs.Reading.{Found, Reading, granted, refused, rules, found, nothing, reading}
-use Rattle.job.specs.Written.{Records, Section, content, section, sections, filed, written, Each, Lawful, Read, bounds-bytes, plate-bytes, triple-bytes, total-bytes, LawfulBounds, LawfulPlate, LawfulTriple, LawfulTotal}
+use Rattle.job.specs.Written.{Records, section, sections, written, Each, Lawful, Read, bounds-bytes, plate-bytes, triple-bytes, total-bytes, LawfulBounds, LawfulPlate, LawfulTriple, LawfulTotal}
 use Rattle.job.proofs.Strings.{Good, offsets, all, length-offsets}
 use Rattle.job.proofs.Files.{listed}
-use Rattle.job.proofs.Granting.{places, placed, Fine, Spots, filed-granted, filed-spots, reads}
+use Rattle.job.proofs.Granting.{placed, Fine, Spots, filed-granted, filed-spots, reads}
 use Rattle.job.proofs.Goods.{goods, bounds-read, good-bounds, plate-read, good-plate, triple-read, good-triple, total-read, good-total}
 
 ordered : (c : Bounds) (cs : List Bounds) (ps : List Plate) (ts : List Triple) (us : List Total) (start : ℕ)

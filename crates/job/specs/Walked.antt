@@ -3,9 +3,9 @@ use Prim.Native.Nat.{ℕ, _+_, _≤_, _<_}
 use mathlib.Core.Path.{_≡_}
 use mathlib.Core.List.{List, map, _++_}
 use lib.ListN.{length, take}
-use Rattle.std.specs.declared.option.Option.the-variants.{Some, None}
+use Rattle.std.specs.declared.option.Option.the-variants.{None}
 use Rattle.records.specs.Forms.{Form}
-use Rattle.records.specs.Refusals.{line, of-bytes, of-record}
+use Rattle.records.specs.Refusals.{line, of-bytes}
 use Rattle.records.specs.declared.fault.ByteFault.{ByteFault}
 use Rattle.job.specs.Reading.{record-fault, record-faults, body-records}
 

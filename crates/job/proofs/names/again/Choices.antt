@@ -1,7 +1,7 @@
 use Prim.Native.Nat.{_+_}
 use mathlib.Core.Path.{_≡_}
-use lib.ListN.{drop, getD}
-use Rattle.bounds.specs.Scoped.{fits, names, distinct}
+use lib.ListN.{drop}
+use Rattle.bounds.specs.Scoped.{names}
 use Rattle.job.proofs.names.again.Given as given
 
 abbrev pub Inv-loop-i : given.InvT-loop-i

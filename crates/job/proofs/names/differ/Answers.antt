@@ -1,4 +1,3 @@
-use mathlib.Core.Path.{_∙_}
 use mathlib.Core.Bool.{true, false}
 use native.Mathlib.Omega.{arith}
 use Rattle.bounds.specs.Scoped.{distinct}

@@ -1,5 +1,3 @@
-use mathlib.Core.Path.{_≡_}
-use denote.Ref.{now}
 use Rattle.job.proofs.Gathering.{Gathering}
 use Rattle.job.proofs.job.Job.scan.Given as given
 
