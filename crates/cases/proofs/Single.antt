@@ -1,7 +1,5 @@
 -- The boards of one rule.
-use Prim.Native.Nat.{ℕ, zero, suc}
-use mathlib.Core.Path.{_≡_, refl}
-use mathlib.Core.List.{List, [], _∷_}
+use mathlib.Core.Path.{refl}
 use native.Mathlib.Omega.{arith}
 use Rattle.bounds.specs.Boards.{void, cells}
 use Rattle.board.specs.Plans.{Applies, stay, more}

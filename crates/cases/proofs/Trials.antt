@@ -1,11 +1,9 @@
 -- The run of two trials, call by call.
-use mathlib.Core.Path.{_≡_, refl}
+use mathlib.Core.Path.{refl}
 use mathlib.Core.Bool.{Bool, true, false}
 use mathlib.Core.List.{List, [], _∷_}
 use native.Mathlib.Omega.{arith}
 use Rattle.bounds.specs.declared.row.Row.{Row}
-use Rattle.bounds.specs.Boards.{cells}
-use Rattle.board.specs.Settles.{Settles}
 use Rattle.board.specs.Calls.{State, as-read, drop, refused, tightened, opened, dropped, settled, Does}
 use Rattle.run.specs.Runs.{Leads, here, then}
 use Rattle.cases.specs.Worked as worked

@@ -11,7 +11,7 @@ use Rattle.bounds.specs.Beside.{beside}
 use Rattle.board.specs.declared.settled.Settled.the-variants.{Settled, Void}
 use Rattle.board.specs.Settles.{Settles}
 use Rattle.board.specs.Plans.{First}
-use Rattle.board.specs.Calls.{State, Trial, as-read, drop, Event, refused, tightened, opened, dropped, settled}
+use Rattle.board.specs.Calls.{Trial, as-read, drop, Event, refused, tightened, opened, dropped, settled}
 use Rattle.plates.specs.Plates.{plates}
 use Rattle.triples.specs.Triples.{triples}
 use Rattle.linear.specs.Totals.{totals}
