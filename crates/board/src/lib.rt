@@ -1,3 +1,5 @@
+#![tactic(auto)]
+
 pub mod board;
 mod control;
 pub mod refusal;

@@ -1,4 +1,6 @@
 // The board of a job, in memory that is handed in.
+#![tactic(auto)]
+
 ghost use Rattle.std.specs.Prelude.{◌≡◌, ◌<◌, ◌≤◌, length, take, drop, slice_index_or};
 ghost use Rattle.bounds.specs.Boards.{sound, none_row};
 ghost use Rattle.board.specs.Makes.{unfit};

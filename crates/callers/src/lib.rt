@@ -1,4 +1,6 @@
 // Callers as a program would write them: each spends every slip that it is given, once.
+#![tactic(auto)]
+
 ghost use Rattle.callers.specs.Trying.{LeftAsFound};
 
 use board::board::Board;

@@ -4,7 +4,7 @@ use Rattle.bounds.specs.declared.row.Row.{Row}
 use Rattle.bounds.specs.Laws.{Meaning}
 use Rattle.bounds.specs.Beside.{beside}
 use Rattle.board.specs.declared.board.Board.{Board}
-use Rattle.families.specs.declared.beside.Beside.{Beside}
+use Rattle.rule_families.specs.declared.beside.Beside.{Beside}
 use Rattle.board.specs.Calls.{State, as_read}
 use Rattle.board.specs.Held.{state}
 use Rattle.plates.specs.declared.family.Plates.{Plates}

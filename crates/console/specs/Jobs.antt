@@ -2,7 +2,7 @@
 use Rattle.std.specs.Prelude.{◌≡◌, ℕ, List}
 use Rattle.bounds.specs.Laws.{Meaning}
 use Rattle.bounds.specs.Beside.{beside}
-use Rattle.families.specs.declared.beside.Beside.{Beside}
+use Rattle.rule_families.specs.declared.beside.Beside.{Beside}
 use Rattle.plates.specs.declared.family.Plates.{Plates}
 use Rattle.plates.specs.Plates.{plates}
 use Rattle.triples.specs.declared.family.Triples.{Triples}

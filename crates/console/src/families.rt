@@ -3,9 +3,9 @@ ghost use Rattle.std.specs.Prelude.{◌≡◌};
 ghost use Rattle.job.specs.Jobs.{job_file, job_found};
 ghost use Rattle.console.specs.Jobs.{JobRules};
 
-use families::beside::Beside;
 use job::job::Job;
 use plates::family::Plates;
+use rule_families::beside::Beside;
 use totals::family::Totals;
 use triples::family::Triples;
 

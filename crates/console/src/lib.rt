@@ -1,3 +1,5 @@
+#![tactic(auto)]
+
 pub mod families;
 pub mod report;
 pub mod room;

@@ -1,4 +1,6 @@
 // Makes the calls of a script, one to a line on standard input, on the board of the job file that the argument names.
+#![tactic(auto)]
+
 mod lines;
 
 use anyhow::anyhow;

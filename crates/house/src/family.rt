@@ -5,8 +5,8 @@ ghost use Rattle.house.specs.Mirrors.{mirror_at, mirrors};
 
 use crate::mirror::Mirror;
 use bounds::row::Row;
-use families::change::Change;
-use families::family::Family;
+use rule_families::change::Change;
+use rule_families::family::Family;
 use rules::named;
 
 const MOST_RULES: usize = 4096;

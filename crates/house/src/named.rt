@@ -3,7 +3,7 @@ ghost use Rattle.house.specs.Mirrors.{mirror_rule};
 
 use crate::mirror::Mirror;
 use bounds::row::Row;
-use families::change::Change;
+use rule_families::change::Change;
 use rules::named::Named;
 
 impl Named for Mirror {

@@ -1,3 +1,5 @@
+#![tactic(auto)]
+
 mod body;
 mod contents;
 mod entry;

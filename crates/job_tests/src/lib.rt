@@ -1,4 +1,6 @@
 // The limits of the job file, each at its edge.
+#![tactic(auto)]
+
 #[cfg(test)]
 mod files;
 #[cfg(test)]

@@ -1,2 +1,4 @@
+#![tactic(auto)]
+
 pub mod division;
 pub mod limits;

@@ -1,4 +1,6 @@
 // Plans the job on standard input: prints its settled bounds and its first plan, or why it is refused.
+#![tactic(auto)]
+
 use anyhow::anyhow;
 use console::report::plan_job;
 use console::room::Room;

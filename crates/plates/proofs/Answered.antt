@@ -3,9 +3,9 @@ use Rattle.std.proofs.Common.{◌≡◌, ◌≢◌, List, sym, refl, ◌∙◌}
 use Rattle.bounds.specs.declared.row.Row.{Row}
 use Rattle.bounds.specs.Boards.{Board, void, cells}
 use Rattle.bounds.proofs.Rows.{cells_void, cells_same}
-use Rattle.families.specs.declared.change.Change.{Change}
-use Rattle.families.specs.declared.change.Change.TheVariants.{Quiet, Narrowed, Void}
-use Rattle.families.specs.Narrows.{Narrows}
+use Rattle.rule_families.specs.declared.change.Change.{Change}
+use Rattle.rule_families.specs.declared.change.Change.TheVariants.{Quiet, Narrowed, Void}
+use Rattle.rule_families.specs.Narrows.{Narrows}
 
 module _ (f : List Row → Board) (a x : List Row) where
   pub narrowed_to : (c : Change) (g : List Row) → f a ≡ cells g → g ≢ a → Narrows f a x c → (c ≡ Narrowed) × (x ≡ g)

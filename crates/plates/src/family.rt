@@ -5,8 +5,8 @@ ghost use Rattle.plates.specs.Plates.{plate, scope_of, plate_rule, plates};
 
 use crate::plate::Plate;
 use bounds::row::Row;
-use families::change::Change;
-use families::family::Family;
+use rule_families::change::Change;
+use rule_families::family::Family;
 use rules::named;
 
 const MOST_RULES: usize = 4096;

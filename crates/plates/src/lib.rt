@@ -1,3 +1,5 @@
+#![tactic(auto)]
+
 pub mod family;
 mod frame;
 pub mod plate;

@@ -2,13 +2,13 @@
 ghost use Rattle.std.specs.Prelude.{◌≡◌, ◌≤◌, true, length};
 ghost use Rattle.bounds.specs.Boards.{sound};
 ghost use Rattle.bounds.specs.Exact.{exact};
-ghost use Rattle.families.specs.Narrows.{Narrows};
+ghost use Rattle.rule_families.specs.Narrows.{Narrows};
 ghost use Rattle.plates.specs.Plates.{plate, plate_rule};
 
 use crate::frame::Frame;
 use bounds::row::Row;
-use families::change::Change;
 use records::bytes::u16_at;
+use rule_families::change::Change;
 use rules::named::Named;
 
 // The most designs on a plate.

@@ -1,12 +1,12 @@
 // Plates worked out by the code, each with what the definition of the rule gives.
 ghost use Rattle.std.specs.Prelude.{◌≡◌};
-ghost use Rattle.families.specs.declared.change.Change.TheVariants.{Quiet, Narrowed, Void};
+ghost use Rattle.rule_families.specs.declared.change.Change.TheVariants.{Quiet, Narrowed, Void};
 ghost use Rattle.plates.specs.Worked.{OneAlone, others_out, TwoOfThree, two_of_three, TooFew, too_few, PlatesAreExact};
 
 use crate::family::Plates;
 use bounds::row::Row;
-use families::change::Change;
-use families::family::Family;
+use rule_families::change::Change;
+use rule_families::family::Family;
 
 pub fn one_alone() -> (Change, [Row; 5])
     ensures rule { OneAlone }

@@ -1,3 +1,5 @@
+#![tactic(auto)]
+
 pub mod body;
 pub mod bytes;
 pub mod cells;

@@ -2,10 +2,10 @@
 ghost use Rattle.std.specs.Prelude.{◌≡◌, ◌<◌, ◌≤◌, true, false, ◌≢◌, length, slice_index};
 ghost use Rattle.bounds.specs.Boards.{sound, none_row};
 ghost use Rattle.bounds.specs.Scoped.{Scoped, fits, names, gather, scatter, on_board};
-ghost use Rattle.families.specs.Narrows.{Narrows};
+ghost use Rattle.rule_families.specs.Narrows.{Narrows};
 
 use bounds::row::Row;
-use families::change::Change;
+use rule_families::change::Change;
 
 // The most cells that a rule names: a plate's slots, its variety and 64 counts.
 pub const MOST_NAMED: usize = 66;
@@ -36,13 +36,13 @@ pub trait Named {
 
 // Whether the rule, on a board of so many cells, touches the cell.
 pub fn touches<R: Named>(rule: &R, cells: usize, cell: usize) -> bool
-    ensures { result ≡ (on_board (scoped rule.now)).touches cells cell }
+    ensures { result ≡ (on_board (R.scoped rule.now)).touches cells cell }
 {
     fits_in(rule, cells) && names_cell(rule, cell)
 }
 
 fn fits_in<R: Named>(rule: &R, cells: usize) -> bool
-    ensures { result ≡ fits (scoped rule.now).scope cells }
+    ensures { result ≡ fits (R.scoped rule.now).scope cells }
 {
     for i in 0..rule.arity() {
         if rule.cell(i) >= cells {
@@ -53,7 +53,7 @@ fn fits_in<R: Named>(rule: &R, cells: usize) -> bool
 }
 
 fn names_cell<R: Named>(rule: &R, cell: usize) -> bool
-    ensures { result ≡ names (scoped rule.now).scope cell }
+    ensures { result ≡ names (R.scoped rule.now).scope cell }
 {
     for i in 0..rule.arity() {
         if rule.cell(i) == cell {
@@ -66,7 +66,7 @@ fn names_cell<R: Named>(rule: &R, cell: usize) -> bool
 // Narrows the rows of the named cells; a rule that names a missing cell leaves every board as it is.
 pub fn narrow<R: Named>(rule: &R, rows: &mut [Row]) -> Change
     requires { sound rows.old ≡ true }
-    ensures { Narrows (on_board (scoped rule.now)).narrowed rows.old rows.new result }
+    ensures { Narrows (on_board (R.scoped rule.now)).narrowed rows.old rows.new result }
 {
     let arity = rule.arity();
     if arity <= FEW_NAMED {
@@ -87,10 +87,10 @@ fn narrow_through<R: Named>(
     own: &mut [Row],
     before: &mut [Row],
 ) -> Change
-    requires own { length own.old ≡ length (scoped rule.now).scope }
-    requires before { length before.old ≡ length (scoped rule.now).scope }
+    requires own { length own.old ≡ length (R.scoped rule.now).scope }
+    requires before { length before.old ≡ length (R.scoped rule.now).scope }
     requires sound { sound rows.old ≡ true }
-    ensures { Narrows (on_board (scoped rule.now)).narrowed rows.old rows.new result }
+    ensures { Narrows (on_board (R.scoped rule.now)).narrowed rows.old rows.new result }
 {
     if !gathered(rule, rows, own) {
         return Change::Quiet;
@@ -110,10 +110,10 @@ fn narrow_through<R: Named>(
 
 // Writes the rows to the named cells. False if the board is what it was: a cell that is named twice may get its row again.
 fn written_back<R: Named>(rule: &R, rows: &mut [Row], own: &[Row], before: &mut [Row]) -> bool
-    requires own { length own.now ≡ length (scoped rule.now).scope }
-    requires before { length before.old ≡ length (scoped rule.now).scope }
-    requires whole { fits (scoped rule.now).scope (length rows.old) ≡ true }
-    ensures written { rows.new ≡ scatter (scoped rule.now).scope own.now rows.old }
+    requires own { length own.now ≡ length (R.scoped rule.now).scope }
+    requires before { length before.old ≡ length (R.scoped rule.now).scope }
+    requires whole { fits (R.scoped rule.now).scope (length rows.old) ≡ true }
+    ensures written { rows.new ≡ scatter (R.scoped rule.now).scope own.now rows.old }
     ensures same { result ≡ false → rows.new ≡ rows.old }
     ensures differs { result ≡ true → rows.new ≢ rows.old }
 {
@@ -124,9 +124,9 @@ fn written_back<R: Named>(rule: &R, rows: &mut [Row], own: &[Row], before: &mut 
 
 // Copies the rows of the named cells; false if one of them is missing.
 fn gathered<R: Named>(rule: &R, rows: &[Row], own: &mut [Row]) -> bool
-    requires { length own.old ≡ length (scoped rule.now).scope }
-    ensures whole { result ≡ fits (scoped rule.now).scope (length rows.now) }
-    ensures copied { result ≡ true → own.new ≡ gather none_row (scoped rule.now).scope rows.now }
+    requires { length own.old ≡ length (R.scoped rule.now).scope }
+    ensures whole { result ≡ fits (R.scoped rule.now).scope (length rows.now) }
+    ensures copied { result ≡ true → own.new ≡ gather none_row (R.scoped rule.now).scope rows.now }
 {
     for i in 0..own.len() {
         let cell = rule.cell(i);
@@ -139,9 +139,9 @@ fn gathered<R: Named>(rule: &R, rows: &[Row], own: &mut [Row]) -> bool
 }
 
 fn scattered<R: Named>(rule: &R, rows: &mut [Row], own: &[Row])
-    requires own { length own.now ≡ length (scoped rule.now).scope }
-    requires whole { fits (scoped rule.now).scope (length rows.old) ≡ true }
-    ensures { rows.new ≡ scatter (scoped rule.now).scope own.now rows.old }
+    requires own { length own.now ≡ length (R.scoped rule.now).scope }
+    requires whole { fits (R.scoped rule.now).scope (length rows.old) ≡ true }
+    ensures { rows.new ≡ scatter (R.scoped rule.now).scope own.now rows.old }
 {
     for i in 0..own.len() {
         rows[rule.cell(i)] = own[i];
@@ -150,10 +150,10 @@ fn scattered<R: Named>(rule: &R, rows: &mut [Row], own: &[Row])
 
 // Whether a named row is not what it was.
 fn changed<R: Named>(rule: &R, rows: &[Row], before: &[Row]) -> bool
-    requires own { length before.now ≡ length (scoped rule.now).scope }
-    requires whole { fits (scoped rule.now).scope (length rows.now) ≡ true }
-    ensures same { result ≡ false → before.now ≡ gather none_row (scoped rule.now).scope rows.now }
-    ensures differs { result ≡ true → before.now ≢ gather none_row (scoped rule.now).scope rows.now }
+    requires own { length before.now ≡ length (R.scoped rule.now).scope }
+    requires whole { fits (R.scoped rule.now).scope (length rows.now) ≡ true }
+    ensures same { result ≡ false → before.now ≡ gather none_row (R.scoped rule.now).scope rows.now }
+    ensures differs { result ≡ true → before.now ≢ gather none_row (R.scoped rule.now).scope rows.now }
 {
     for i in 0..before.len() {
         if rows[rule.cell(i)] != before[i] {

@@ -8,7 +8,7 @@ use crate::halted::Halted;
 use crate::step::step;
 use board::board::Board;
 use bounds::row::Row;
-use families::family::Family;
+use rule_families::family::Family;
 use std::alloc::Global;
 
 // Makes the calls of the script in turn on the board, up to one for whose answer there is no memory.
@@ -20,10 +20,10 @@ pub fn run<F: Family>(
     plan: &mut [u16],
     scratch: &mut [Row],
 ) -> Result<Vec<Answer>, Halted>
-    ensures runs { Runs (meaning family.now) board.old board.new plan.old plan.new scratch.old scratch.new script.now result }
-    ensures promise { Promise (meaning family.now) }
-    ensures accounts { Accounts (meaning family.now) }
-    ensures determined { Determined (meaning family.now) }
+    ensures runs { Runs (F.meaning family.now) board.old board.new plan.old plan.new scratch.old scratch.new script.now result }
+    ensures promise { Promise (F.meaning family.now) }
+    ensures accounts { Accounts (F.meaning family.now) }
+    ensures determined { Determined (F.meaning family.now) }
 {
     let mut answers = Vec::new(heap);
     for call in script {

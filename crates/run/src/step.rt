@@ -9,7 +9,7 @@ use board::board::{Board, Slip};
 use board::refusal::Refusal;
 use bounds::cell::Cell;
 use bounds::row::Row;
-use families::family::Family;
+use rule_families::family::Family;
 use search::seek::seek;
 use search::sought::Sought;
 use settling::settled::Settled;
@@ -24,7 +24,7 @@ pub fn step<F: Family>(
     plan: &mut [u16],
     scratch: &mut [Row],
 ) -> Result<Answer, AllocError>
-    ensures { Steps (meaning family.now) board.old board.new plan.old plan.new scratch.old scratch.new call result }
+    ensures { Steps (F.meaning family.now) board.old board.new plan.old plan.new scratch.old scratch.new call result }
 {
     match call {
         Call::Tighten { cell, low, high } => Ok(granted(board.tighten(cell, low, high))),
@@ -44,7 +44,7 @@ fn sought<F: Family>(
     plan: &mut [u16],
     scratch: &mut [Row],
 ) -> Result<Answer, AllocError>
-    ensures { Steps (meaning family.now) board.now board.now plan.old plan.new scratch.old scratch.new Call.Seek result }
+    ensures { Steps (F.meaning family.now) board.now board.now plan.old plan.new scratch.old scratch.new Call.Seek result }
 {
     let cells = board.cells();
     // The room for a plan comes first, so that a seek that is made is answered.

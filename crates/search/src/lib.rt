@@ -1,2 +1,4 @@
+#![tactic(auto)]
+
 pub mod seek;
 pub mod sought;

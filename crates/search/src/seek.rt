@@ -9,7 +9,7 @@ use crate::sought::Sought;
 use board::board::Board;
 use board::refusal::Refusal;
 use bounds::row::Row;
-use families::family::Family;
+use rule_families::family::Family;
 use settling::settle::settle_rows;
 use settling::settled::Settled;
 
@@ -21,7 +21,7 @@ pub fn seek<F: Family>(
     plan: &mut [u16],
     scratch: &mut [Row],
 ) -> Result<Sought, Refusal>
-    ensures does { Does (meaning family.now) (state board.now) (event_of_seek (length (state board.now).rows) plan.new scratch.new result) (state board.now) }
+    ensures does { Does (F.meaning family.now) (state board.now) (event_of_seek (length (state board.now).rows) plan.new scratch.new result) (state board.now) }
     ensures memory { Memory (length (state board.now).rows) plan.old plan.new scratch.old scratch.new result }
 {
     let rows = board.rows();
@@ -47,7 +47,7 @@ fn search<F: Family>(family: &F, level: &mut [Row], plan: &mut [u16], rest: &mut
     requires few { length level.old ≤ 1024 }
     requires counts { length level.old ≤ length plan.old }
     requires room { opens level.old * length level.old ≤ length rest.old }
-    ensures { Searched (meaning family.now) level.old plan.old plan.new result }
+    ensures { Searched (F.meaning family.now) level.old plan.old plan.new result }
 {
     let cells = level.len();
     loop {

@@ -1,2 +1,4 @@
+#![tactic(auto)]
+
 pub mod settle;
 pub mod settled;

@@ -6,8 +6,8 @@ ghost use Rattle.settling.specs.Settles.{Settles};
 
 use crate::settled::Settled;
 use bounds::row::Row;
-use families::change::Change;
-use families::family::Family;
+use rule_families::change::Change;
+use rule_families::family::Family;
 
 const MOST_RULES: usize = 4096;
 
@@ -15,7 +15,7 @@ const MOST_RULES: usize = 4096;
 pub fn settle_rows<F: Family>(family: &F, rows: &mut [Row]) -> Settled
     requires sound { sound rows.old ≡ true }
     requires few { length rows.old ≤ 1024 }
-    ensures { Settles (meaning family.now) rows.old rows.new result }
+    ensures { Settles (F.meaning family.now) rows.old rows.new result }
 {
     let cells = rows.len();
     let mut pending = [true; MOST_RULES];
@@ -53,7 +53,7 @@ fn width(rows: &[Row]) -> u32
 
 // Makes every rule pending that touches a cell which the rule touches, itself among them.
 fn wake<F: Family>(family: &F, rule: usize, cells: usize, pending: &mut [bool; MOST_RULES])
-    ensures { Woken (meaning family.now) cells rule pending.old pending.new }
+    ensures { Woken (F.meaning family.now) cells rule pending.old pending.new }
 {
     for cell in 0..cells {
         if family.touches(rule, cells, cell) {
@@ -63,7 +63,7 @@ fn wake<F: Family>(family: &F, rule: usize, cells: usize, pending: &mut [bool; M
 }
 
 fn wake_at<F: Family>(family: &F, cells: usize, cell: usize, pending: &mut [bool; MOST_RULES])
-    ensures { WokenAt (meaning family.now) cells cell pending.old pending.new }
+    ensures { WokenAt (F.meaning family.now) cells cell pending.old pending.new }
 {
     for rule in 0..family.size() {
         if family.touches(rule, cells, cell) {

@@ -4,8 +4,8 @@ use Rattle.std.proofs.lemmas.Bool.{cases_Bool}
 use Rattle.bounds.specs.declared.row.Row.{Row}
 use Rattle.bounds.specs.Boards.{sound, none_row}
 use Rattle.bounds.proofs.Places.{low_at, high_at, at_sound, sound_at, same_rows}
-use Rattle.families.specs.declared.change.Change.{Change}
-use Rattle.families.specs.declared.change.Change.TheVariants.{Quiet, Narrowed, Void}
+use Rattle.rule_families.specs.declared.change.Change.{Change}
+use Rattle.rule_families.specs.declared.change.Change.TheVariants.{Quiet, Narrowed, Void}
 use Rattle.totals.specs.Narrowing.{Outcome}
 
 -- the first i places of g and a agree

@@ -2,8 +2,8 @@
 use Rattle.std.specs.Prelude.{◌≡◌, ◌^◌, ◌<◌, ◌≤◌, true, false, ◌≢◌, List, length}
 use Rattle.bounds.specs.declared.row.Row.{Row}
 use Rattle.bounds.specs.Boards.{sound}
-use Rattle.families.specs.declared.change.Change.{Change}
-use Rattle.families.specs.declared.change.Change.TheVariants.{Quiet, Narrowed, Void}
+use Rattle.rule_families.specs.declared.change.Change.{Change}
+use Rattle.rule_families.specs.declared.change.Change.TheVariants.{Quiet, Narrowed, Void}
 use Rattle.linear.specs.declared.limits.Limits.{Limits}
 use Rattle.linear.specs.Linear.{limits, all_bounded}
 use Rattle.linear.specs.Totals.{weights_lawful}

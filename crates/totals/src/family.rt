@@ -4,8 +4,8 @@ ghost use Rattle.linear.proofs.TotalLaws.{totals_lawful};
 
 use crate::total::Total;
 use bounds::row::Row;
-use families::change::Change;
-use families::family::Family;
+use rule_families::change::Change;
+use rule_families::family::Family;
 use rules::named;
 
 const MOST_RULES: usize = 4096;

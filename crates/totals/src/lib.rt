@@ -1,3 +1,5 @@
+#![tactic(auto)]
+
 pub mod family;
 #[cfg(test)]
 mod tests;

@@ -1,8 +1,8 @@
 use crate::family::Totals;
 use crate::worked::both_limits_bind;
 use bounds::row::Row;
-use families::change::Change;
-use families::family::Family;
+use rule_families::change::Change;
+use rule_families::family::Family;
 
 #[test]
 fn two_twos_are_never_three(rt: HostRuntime) {

@@ -1,12 +1,12 @@
 // What the bounds of a total promise, and what they do not.
 ghost use Rattle.std.specs.Prelude.{◌≡◌, [], ◌∷◌};
-ghost use Rattle.families.specs.declared.change.Change.TheVariants.{Narrowed, Void};
+ghost use Rattle.rule_families.specs.declared.change.Change.TheVariants.{Narrowed, Void};
 ghost use Rattle.totals.specs.Worked.{CeilingIsExact, FloorIsExact, BothLimitsBind, both_one};
 
 use crate::family::Totals;
 use bounds::row::Row;
-use families::change::Change;
-use families::family::Family;
+use rule_families::change::Change;
+use rule_families::family::Family;
 
 // Stands for the theorem that it ensures, as the next does.
 pub fn ceiling_is_exact()

@@ -5,8 +5,8 @@ ghost use Rattle.triples.specs.Triples.{read, triple_rule, triple_laws, triples}
 
 use crate::triple::Triple;
 use bounds::row::Row;
-use families::change::Change;
-use families::family::Family;
+use rule_families::change::Change;
+use rule_families::family::Family;
 use rules::named;
 
 const MOST_RULES: usize = 4096;

@@ -1,3 +1,5 @@
+#![tactic(auto)]
+
 pub mod family;
 pub mod kind;
 pub mod named;

@@ -1,13 +1,13 @@
 // A triple as a rule that names its cells.
 ghost use Rattle.std.specs.Prelude.{◌≡◌, length};
-ghost use Rattle.families.specs.Narrows.{Narrows};
+ghost use Rattle.rule_families.specs.Narrows.{Narrows};
 ghost use Rattle.triples.specs.Triples.{rule_of, board_of};
 
 use crate::kind::TripleKind;
 use crate::narrowing;
 use crate::triple::Triple;
 use bounds::row::Row;
-use families::change::Change;
+use rule_families::change::Change;
 use rules::named::Named;
 
 fn two(own: &[Row]) -> [Row; 2]
@@ -33,7 +33,7 @@ fn written<const N: usize>(own: &mut [Row], narrowed: Option<[Row; N]>) -> Chang
         return Change::Void;
     };
     let before: &[Row] = own;
-    if before == rows {
+    if before == rows.as_slice() {
         return Change::Quiet;
     }
     own.copy_from_slice(&rows);

@@ -1,7 +1,7 @@
 use crate::family::Triples;
 use bounds::row::Row;
-use families::change::Change;
-use families::family::Family;
+use rule_families::change::Change;
+use rule_families::family::Family;
 
 // A union of cells 3 and 0 in cell 1, a union_plus of 0 and 1 in 2, a subset of 1 in 0, and a record of no kind.
 const FILE: [u8; 32] = [

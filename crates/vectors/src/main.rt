@@ -1,4 +1,6 @@
 // Plans many jobs, one after another on standard input, each after its length in 4 bytes, lowest byte first.
+#![tactic(auto)]
+
 ghost use Rattle.std.specs.Prelude.{◌≤◌, length};
 
 use console::report::plan_job;

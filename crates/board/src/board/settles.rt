@@ -8,15 +8,15 @@ ghost use Rattle.settling.specs.Settles.{Settles};
 
 use super::Board;
 use bounds::row::Row;
-use families::family::Family;
+use rule_families::family::Family;
 use settling::settle::settle_rows;
 use settling::settled::Settled;
 
 impl Board {
     // Applies the lowest-numbered rule that changes the board until none does, or one voids it.
     pub fn settle<F: Family>(&mut self, family: &F) -> Settled
-        ensures does { Does (meaning family.now) (state self.old) (event_of_settle result) (state self.new) }
-        ensures widest { Widest (meaning family.now) (λ p. Lies p (board (state self.old))) (board (state self.new)) }
+        ensures does { Does (F.meaning family.now) (state self.old) (event_of_settle result) (state self.new) }
+        ensures widest { Widest (F.meaning family.now) (λ p. Lies p (board (state self.old))) (board (state self.new)) }
         ensures frame { Frame self.old self.new }
         ensures saved { self.new.saved.items ≡ self.old.saved.items }
     {
@@ -36,7 +36,7 @@ fn settle_front<F: Family>(family: &F, rows: &mut [Row], cells: usize) -> Settle
     requires sound { sound (take cells rows.old) ≡ true }
     requires few { cells ≤ 1024 }
     requires room { cells ≤ length rows.old }
-    ensures front { Settles (meaning family.now) (take cells rows.old) (take cells rows.new) result }
+    ensures front { Settles (F.meaning family.now) (take cells rows.old) (take cells rows.new) result }
     ensures past { drop cells rows.new ≡ drop cells rows.old }
 {
     settle_rows(family, &mut rows[..cells])

@@ -5,8 +5,8 @@ ghost use Rattle.totals.specs.Narrowing.{limits_of, new_rows, Open, Outcome};
 
 use super::Total;
 use bounds::row::Row;
-use families::change::Change;
 use linear::limits::Limits;
+use rule_families::change::Change;
 
 impl Total<'_> {
     pub(super) fn limits(&self, own: &[Row]) -> Limits

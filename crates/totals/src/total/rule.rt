@@ -4,8 +4,8 @@ ghost use Rattle.totals.specs.Read.{record_of};
 
 use super::Total;
 use bounds::row::Row;
-use families::change::Change;
 use records::bytes::u16_at;
+use rule_families::change::Change;
 use rules::named::Named;
 
 impl Named for Total<'_> {

@@ -1,7 +1,7 @@
 use Rattle.std.proofs.Common.{◌≢◌, List, refl, ap, subst, arith}
 use Rattle.bounds.specs.declared.row.Row.{Row}
 use Rattle.bounds.proofs.Places.{low_at, high_at}
-use Rattle.families.specs.Narrows.{Narrows}
+use Rattle.rule_families.specs.Narrows.{Narrows}
 use Rattle.rules.proofs.Answered.{narrowed_to, void_at}
 use Rattle.totals.specs.Worked.{narrowed_by, three_by_twos, up_to, both_one}
 use Rattle.totals.proofs.worked.both_limits_bind.Goals as goal

@@ -15,7 +15,7 @@ returns-then-head-lt1 c = let h = c.read-head.result in let b = c.args.body.now 
 
 pub returns : goal.returns
 returns c = let h = c.read-head.result in let b = c.args.body.now in let i = c.args.place in
-    c.weights-keep.ensures
+    c.weights_keep.ensures
     ∙ sym (total_limits_of b i h.cells h.floor h.ceiling (c.from.result + 18)
     (ap (λ (r : TotalHead). r.cells) c.read-head.ensures) (ap (λ (r : TotalHead). r.floor) c.read-head.ensures)
     (ap (λ (r : TotalHead). r.ceiling) c.read-head.ensures) (omega arith)

@@ -13,5 +13,5 @@ overflow-add-from-2 c = let b = c.args.body.now in let i = c.args.place in
 
 pub returns : goal.returns
 returns c = let b = c.args.body.now in let i = c.args.place in
-    c.u16-at.ensures ∙ ap (number 2 b) (omega arith)
+    c.u16_at.ensures ∙ ap (number 2 b) (omega arith)
     ∙ sym (get_or_cells (number 2 b i) b (i + 18) c.args.index (omega (arith, c.requires, length_cells (number 2 b i) b (i + 18))))

@@ -6,11 +6,11 @@ use Rattle.records.proofs.totals.weights.weights_keep.Goals as goal
 
 pub returns-then-weight-lt1 : goal.returns-then-weight-lt1
 returns-then-weight-lt1 c = let b = c.args.body.now in
-    weights_off c.args.cells b c.args.place c.loop-i.i c.u32-at-weight.result (weighted (terms c.args.cells b c.args.place))
-    (omega arith) c.u32-at-weight.ensures
+    weights_off c.args.cells b c.args.place c.loop-i.i c.u32_at-weight.result (weighted (terms c.args.cells b c.args.place))
+    (omega arith) c.u32_at-weight.ensures
     (elim c.then-weight-lt1.either [ inl h ↦ inl h | inr h ↦ inr h.1 ]) c.loop-i.invariant
 
 pub loop-i-preserved : goal.loop-i-preserved
 loop-i-preserved c = let b = c.args.body.now in
-    weights_on c.args.cells b c.args.place c.loop-i.i c.u32-at-weight.result (weighted (terms c.args.cells b c.args.place))
-    (omega arith) c.u32-at-weight.ensures c.if-weight-lt1.false c.if-weight-gt-MOST-WEIGHT.false c.loop-i.invariant
+    weights_on c.args.cells b c.args.place c.loop-i.i c.u32_at-weight.result (weighted (terms c.args.cells b c.args.place))
+    (omega arith) c.u32_at-weight.ensures c.if-weight-lt1.false c.if-weight-gt-MOST_WEIGHT.false c.loop-i.invariant

@@ -1,6 +1,6 @@
 use Rattle.std.proofs.Common.{◌+◌, ◌≤◌, sym, ap, ◌∙◌, subst, arith}
 use Rattle.bounds.proofs.Places.{low_at, high_at}
-use Rattle.families.specs.declared.change.Change.{Change}
+use Rattle.rule_families.specs.declared.change.Change.{Change}
 use Rattle.rules.proofs.Compared.{rows_differ, rows_agree}
 use Rattle.totals.specs.Narrowing.{new_rows}
 use Rattle.totals.proofs.Outcomes.{Far, far_same, far_other, far_all, far_void}

@@ -1,3 +1,5 @@
+#![tactic(auto)]
+
 pub mod beside;
 pub mod change;
 pub mod family;

@@ -2,7 +2,7 @@
 ghost use Rattle.std.specs.Prelude.{◌≡◌, true};
 ghost use Rattle.bounds.specs.Boards.{sound};
 ghost use Rattle.bounds.specs.Laws.{Meaning, FiveLaws};
-ghost use Rattle.families.specs.Narrows.{Narrows};
+ghost use Rattle.rule_families.specs.Narrows.{Narrows};
 
 use crate::change::Change;
 use bounds::row::Row;
