@@ -1,19 +1,23 @@
 -- What `==` on rows tells.
-use Rattle.std.proofs.Common.{◌≡◌, Bool, true, false, cond, not, Decides, refl, ap}
+use Rattle.std.proofs.Common.{◌≡◌, Bool, true, false, ◌&&◌, not, eqb, Decides, refl, ap}
 use Rattle.std.proofs.lemmas.Bool.{true≢false, false≢true}
+use Rattle.std.proofs.lemmas.Bool.Decides.{Decides-at, Decides-like, Decides-and, Decides-eqb}
 use Rattle.bounds.specs.declared.row.Row.{Row}
 use Rattle.bounds.proofs.Places.{same_row}
 
 module _ (r s : Row) where
   -- as the derived `eq` states it
   abbrev pub Compared : Bool → Type 0
-  Compared x = cond {A = Type 0} x (Decides true (r.low ≡ s.low) × Decides true (r.high ≡ s.high))
-      ((Decides false (r.low ≡ s.low) → ⊥) → (Decides false (r.high ≡ s.high) → ⊥) → ⊥)
+  Compared x = x ≡ (eqb r.low s.low && eqb r.high s.high)
+
+  pub compared_decides : (x : Bool) → Compared x → Decides x (r ≡ s)
+  compared_decides x h = Decides-like x (λ p. same_row r s p.0 p.1) (λ e. (ap (λ z. z.low) e, ap (λ z. z.high) e))
+      (Decides-at x _ h (Decides-and _ _ (Decides-eqb r.low s.low) (Decides-eqb r.high s.high)))
 
   pub rows_differ : (x : Bool) → Compared x → true ≡ not x → r ≡ s → ⊥
   rows_differ true h e k = true≢false e
-  rows_differ false h e k = h (λ d. false≢true (d.1 (ap (λ z. z.low) k))) (λ d. false≢true (d.1 (ap (λ z. z.high) k)))
+  rows_differ false h e k = false≢true ((compared_decides false h).1 k)
 
   pub rows_agree : (x : Bool) → Compared x → false ≡ not x → r ≡ s
-  rows_agree true h e = same_row r s (h.0.0 refl) (h.1.0 refl)
+  rows_agree true h e = (compared_decides true h).0 refl
   rows_agree false h e = absurd (false≢true e)

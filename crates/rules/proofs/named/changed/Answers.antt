@@ -10,8 +10,8 @@ use Rattle.rules.proofs.named.changed.Goals as goal
 here : (g : given.Over) (c : goal.After-cell g) → c.cell.result < length c.args.rows.now
 here g c = omega (arith, fits_at (g.R.Named.scoped c.args.rule.now).scope (length c.args.rows.now) c.requires.whole c.loop-i.i (omega arith))
 
-pub offset-bounds-rows-cell : goal.offset-bounds-rows-cell
-offset-bounds-rows-cell g c = let h = here g c in search rules
+pub offset_bounds-rows-cell : goal.offset_bounds-rows-cell
+offset_bounds-rows-cell g c = let h = here g c in search rules
 
 pub bounds-rows-cell : goal.bounds-rows-cell
 bounds-rows-cell g c = here g c
@@ -23,7 +23,7 @@ returns-then-ne g c =
     let h = c.if-ne.ensures in
     record {
       same = λ e. absurd (true≢false e);
-      differs = λ _ e. rows_differ (get_or rows c.cell.result none_row) (get_or before i none_row) h.0 h.1 h.2
+      differs = λ _ e. rows_differ (get_or rows c.cell.result none_row) (get_or before i none_row) _ refl h
           (ap (λ j. get_or rows j none_row) c.cell.ensures ∙ sym (gather_at none_row cs rows i (omega arith))
           ∙ ap (λ (x : List Row). get_or x i none_row) (sym e));
     }
@@ -33,7 +33,7 @@ loop-i-preserved g c =
     let rows = c.args.rows.now in let before = c.args.before.now in let i = c.loop-i.i in
     let h = c.if-ne.ensures in
     below_more _ _ c.loop-i.invariant
-    (sym (rows_agree (get_or rows c.cell.result none_row) (get_or before i none_row) h.0 h.1 h.2)
+    (sym (rows_agree (get_or rows c.cell.result none_row) (get_or before i none_row) _ refl h)
     ∙ ap (λ j. get_or rows j none_row) c.cell.ensures)
 
 pub returns : goal.returns

@@ -4,8 +4,8 @@ use Rattle.bounds.specs.Boards.{cells, sound}
 use Rattle.bounds.proofs.Lifted.{own_sound, lifted_quiet}
 use Rattle.rules.proofs.named.narrow_through.Goals as goal
 
-pub narrow-own-requires : goal.narrow-own-requires
-narrow-own-requires g c =
+pub narrow_own-requires : goal.narrow_own-requires
+narrow_own-requires g c =
     let s = g.R.Named.scoped c.args.rule.now in
     let in' = sym c.gathered.ensures.whole ∙ c.if-not-gathered.false in
     record {

@@ -8,8 +8,8 @@ use Rattle.rules.proofs.named.scattered.Goals as goal
 here : (g : given.Over) (c : goal.After-cell g) → c.cell.result < length c.loop-i.rows
 here g c = omega (arith, fits_at (g.R.Named.scoped c.args.rule.now).scope (length c.args.rows.now) c.requires.whole c.loop-i.i (omega arith))
 
-pub offset-bounds-rows-cell : goal.offset-bounds-rows-cell
-offset-bounds-rows-cell g c = let h = here g c in search rules
+pub offset_bounds-rows-cell : goal.offset_bounds-rows-cell
+offset_bounds-rows-cell g c = let h = here g c in search rules
 
 pub bounds-rows-cell : goal.bounds-rows-cell
 bounds-rows-cell g c = here g c

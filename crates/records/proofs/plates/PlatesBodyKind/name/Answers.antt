@@ -5,16 +5,16 @@ use Rattle.records.specs.declared.plates.PlateHead.{PlateHead}
 use Rattle.records.proofs.Fields.{length_numbers, get_or_numbers, get_or_third}
 use Rattle.records.proofs.plates.PlatesBodyKind.name.Goals as goal
 
-pub overflow-mul-index : goal.overflow-mul-index
-overflow-mul-index c = let b = c.args.body.now in let i = c.args.place in
+pub overflow_mul-index : goal.overflow_mul-index
+overflow_mul-index c = let b = c.args.body.now in let i = c.args.place in
     omega (arith, c.requires, length_numbers (number 2 b (i + 4)) b (i + 6), ap (λ (r : PlateHead). r.counts) c.read-head.ensures)
 
-pub overflow-add-from-in-default : goal.overflow-add-from-in-default
-overflow-add-from-in-default c = let b = c.args.body.now in let i = c.args.place in
+pub overflow_add-from-in_default : goal.overflow_add-from-in_default
+overflow_add-from-in_default c = let b = c.args.body.now in let i = c.args.place in
     omega (arith, c.requires, length_numbers (number 2 b (i + 4)) b (i + 6), ap (λ (r : PlateHead). r.counts) c.read-head.ensures)
 
-pub returns-in-default : goal.returns-in-default
-returns-in-default c = let b = c.args.body.now in let i = c.args.place in let n = c.args.index in
-    c.u16-at.ensures ∙ ap (number 2 b) (omega arith)
+pub returns-in_default : goal.returns-in_default
+returns-in_default c = let b = c.args.body.now in let i = c.args.place in let n = c.args.index in
+    c.u16_at.ensures ∙ ap (number 2 b) (omega arith)
     ∙ sym (get_or_numbers (number 2 b (i + 4)) b (i + 6) (n - 2) (omega (arith, c.requires, length_numbers (number 2 b (i + 4)) b (i + 6))))
     ∙ sym (get_or_third (number 2 b i) (number 2 b (i + 2)) (numbers (number 2 b (i + 4)) b (i + 6)) n (omega arith))

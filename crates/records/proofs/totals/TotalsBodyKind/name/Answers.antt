@@ -3,13 +3,13 @@ use Rattle.records.specs.Bytes.{number}
 use Rattle.records.proofs.Fields.{length_cells, get_or_cells}
 use Rattle.records.proofs.totals.TotalsBodyKind.name.Goals as goal
 
-pub overflow-mul-index : goal.overflow-mul-index
-overflow-mul-index c = let b = c.args.body.now in let i = c.args.place in
-    omega (arith, c.requires, length_cells (number 2 b i) b (i + 18), c.type-inv.body i, c.type-inv.body (i + 1))
+pub overflow_mul-index : goal.overflow_mul-index
+overflow_mul-index c = let b = c.args.body.now in let i = c.args.place in
+    omega (arith, c.requires, length_cells (number 2 b i) b (i + 18), c.type_inv.body i, c.type_inv.body (i + 1))
 
-pub overflow-add-from-2 : goal.overflow-add-from-2
-overflow-add-from-2 c = let b = c.args.body.now in let i = c.args.place in
-    omega (arith, c.requires, length_cells (number 2 b i) b (i + 18), c.type-inv.body i, c.type-inv.body (i + 1))
+pub overflow_add-from-2 : goal.overflow_add-from-2
+overflow_add-from-2 c = let b = c.args.body.now in let i = c.args.place in
+    omega (arith, c.requires, length_cells (number 2 b i) b (i + 18), c.type_inv.body i, c.type_inv.body (i + 1))
 
 pub returns : goal.returns
 returns c = let b = c.args.body.now in let i = c.args.place in
