@@ -6,4 +6,4 @@ use Rattle.board.proofs.board.Board.at.Goals as goal
 pub unwrap-requires : goal.unwrap-requires
 unwrap-requires c =
     let rows = c.rows.result.now in
-    some_since _ _ _ c.from-row.ensures (λ h. omega (arith, sound_at rows c.rows.ensures.sound c.args.cell (omega (arith, ap length c.rows.ensures.value))))
+    some_since _ _ _ c.from_row.ensures (λ h. omega (arith, sound_at rows c.rows.ensures.sound c.args.cell (omega (arith, ap length c.rows.ensures.value))))

@@ -15,7 +15,7 @@ use Rattle.board.proofs.board.Board.open.Goals as goal
 
 pub returns-then-self : goal.returns-then-self
 returns-then-self c = record {
-  does = λ m. (open_spent c.args.self.now c.if-depth-ge-MOST-TRIALS.false (omega arith), lit< tt, refl);
+  does = λ m. (open_spent c.args.self.now c.if-depth-ge-MOST_TRIALS.false (omega arith), lit< tt, refl);
   frame = record { cells = refl; past = refl; rows_room = refl; saved_room = refl };
   outside = record { before = refl; after = refl };
   rows = refl;
@@ -25,7 +25,7 @@ returns-then-self c = record {
 pub paste-requires : goal.paste-requires
 paste-requires c =
     let k = c.args.self.now.control in
-    simp length-take (omega (arith, room_for k.cells k.depth 16 c.if-depth-ge-MOST-TRIALS.false))
+    simp length-take (omega (arith, room_for k.cells k.depth 16 c.if-depth-ge-MOST_TRIALS.false))
 
 -- what the paste leaves in the trial memory
 written : (b : Board) (read xs ws : List Row) → read ≡ vec_items b.rows → xs ≡ vec_items b.saved → length ws ≡ vec_len b.saved
@@ -44,16 +44,26 @@ numbered b t h e =
     (λ i l. let ne : i ≢ d = omega arith in rw (get_or-set_other ts d i t none_trial ne) (omega (arith, b.numbered i l)))
     (let k : d < length ts = omega arith in rw (get_or-set_same ts d t none_trial k) (omega arith))
 
-pub invariant-of-self : goal.invariant-of-self
-invariant-of-self c =
+pub invariant_of-self : goal.invariant_of-self
+invariant_of-self c =
     let b = c.args.self.now in
     let n = b.control.cells in
     let d = b.control.depth in
     let rows = (state b).rows in
-    let p = written b _ _ _ c.deref.ensures.value c.deref-mut.ensures.value (omega arith) c.paste.ensures in
+    let p = written b _ _ _ c.deref.ensures.value c.deref_mut.ensures.value (omega arith) c.paste.ensures in
     let s = subst (λ m. sound (take m (vec_items (with_items b.saved c.paste.new.to))) ≡ true) (next_place n d rows (rows_length b))
     (sound_pasted (d * n) rows _ _ p b.saved_sound b.rows_sound) in
-    (b.some, (b.few, (b.room, (b.trial_room, (length-set _ _ _ ∙ b.sixteen, (omega arith, (numbered b _ c.if-depth-ge-MOST-TRIALS.false refl, (b.rows_sound, (s, tt)))))))))
+    record {
+      some = b.some;
+      few = b.few;
+      room = b.room;
+      trial_room = b.trial_room;
+      sixteen = length-set _ _ _ ∙ b.sixteen;
+      shallow = omega arith;
+      numbered = numbered b _ c.if-depth-ge-MOST_TRIALS.false refl;
+      rows_sound = b.rows_sound;
+      saved_sound = s;
+    }
 
 pub returns : goal.returns
 returns c =
@@ -61,12 +71,12 @@ returns c =
     let n = b.control.cells in
     let d = b.control.depth in
     let rows = (state b).rows in
-    let p = written b _ _ _ c.deref.ensures.value c.deref-mut.ensures.value (omega arith) c.paste.ensures in
+    let p = written b _ _ _ c.deref.ensures.value c.deref_mut.ensures.value (omega arith) c.paste.ensures in
     let l = rows_length b in
     let ts = one_more n b.control.trials (record { serial = b.control.given + 1; void = b.control.void }) rows _ _ d (omega arith) l p in
     record {
       does = λ m. (
-        open_granted b c.if-depth-ge-MOST-TRIALS.false (omega arith),
+        open_granted b c.if-depth-ge-MOST_TRIALS.false (omega arith),
         refl,
         ap (λ t. record { is_void = b.control.void; rows = rows; given = b.control.given + 1; trials = t }) ts,
       );

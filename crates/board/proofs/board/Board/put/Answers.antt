@@ -14,23 +14,33 @@ use Rattle.board.proofs.board.Board.put.Goals as goal
 ordered : (n : Cell) (r : Row) → r ≡ row_of n → r.low ≤ r.high
 ordered n r e = omega (arith, ap (λ x. x.low) e, ap (λ x. x.high) e)
 
-pub invariant-of-self : goal.invariant-of-self
-invariant-of-self c =
+pub invariant_of-self : goal.invariant_of-self
+invariant_of-self c =
     let b = c.args.self.now in
     let i = c.args.cell in
-    let r = c.to-row.result in
+    let r = c.to_row.result in
     let h : i < b.control.cells = omega (arith, rows_length b) in
     let s : sound (take b.control.cells (set (vec_items b.rows) i r)) ≡ true = rw (take-set-lt b.control.cells (vec_items b.rows) i r h)
-    (sound_set _ i r b.rows_sound (ordered c.args.narrowed r c.to-row.ensures)) in
-    (b.some, (b.few, (b.room, (b.trial_room, (b.sixteen, (b.shallow, (b.numbered, (s, (b.saved_sound, tt)))))))))
+    (sound_set _ i r b.rows_sound (ordered c.args.narrowed r c.to_row.ensures)) in
+    record {
+      some = b.some;
+      few = b.few;
+      room = b.room;
+      trial_room = b.trial_room;
+      sixteen = b.sixteen;
+      shallow = b.shallow;
+      numbered = b.numbered;
+      rows_sound = s;
+      saved_sound = b.saved_sound;
+    }
 
 pub returns : goal.returns
 returns c =
     let b = c.args.self.now in
     let i = c.args.cell in
-    let r = c.to-row.result in
+    let r = c.to_row.result in
     let h : i < b.control.cells = omega (arith, rows_length b) in
-    let e = take-set-lt b.control.cells (vec_items b.rows) i r h ∙ ap (set (state b).rows i) c.to-row.ensures in
+    let e = take-set-lt b.control.cells (vec_items b.rows) i r h ∙ ap (set (state b).rows i) c.to_row.ensures in
     record {
       state = λ j. record { is_void = b.control.void; rows = e j; given = b.control.given; trials = (state b).trials };
       frame = record { cells = refl; past = drop-set-lt _ _ _ _ h; rows_room = refl; saved_room = refl };

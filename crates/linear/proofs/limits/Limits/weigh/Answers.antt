@@ -2,11 +2,11 @@ use Rattle.std.proofs.Common.{◌+◌, ◌*◌, ◌^◌, ap, ap₂, arith}
 use Rattle.std.proofs.lemmas.Nat.{mul-lt}
 use Rattle.linear.proofs.limits.Limits.weigh.Goals as goal
 
-pub overflow-add-result : goal.overflow-add-result
-overflow-add-result c = omega (arith, mul-lt c.from-weight.result c.from.result (2 ^ 32) (2 ^ 16) (omega arith) (omega arith))
+pub overflow_add-result : goal.overflow_add-result
+overflow_add-result c = omega (arith, mul-lt c.from-weight.result c.from.result (2 ^ 32) (2 ^ 16) (omega arith) (omega arith))
 
-pub overflow-add-result-2 : goal.overflow-add-result-2
-overflow-add-result-2 c = omega (arith, mul-lt c.from-weight.result c.from-2.result (2 ^ 32) (2 ^ 16) (omega arith) (omega arith))
+pub overflow_add-result-2 : goal.overflow_add-result-2
+overflow_add-result-2 c = omega (arith, mul-lt c.from-weight.result c.from-2.result (2 ^ 32) (2 ^ 16) (omega arith) (omega arith))
 
 pub returns : goal.returns
 returns c =
