@@ -45,9 +45,9 @@ impl<'f> Body<'f> {
         first: usize,
         places: &mut [u16],
     ) -> Result<usize, RecordFault>
-        requires self_bound { start + length (body_bytes self) ≤ 65535 }
-        requires first_bound { first ≤ 1024 }
-        requires places_len { length places.old ≡ 1024 }
+        requires short { start + length (body_bytes self) ≤ 65535 }
+        requires few { first ≤ 1024 }
+        requires room { length places.old ≡ 1024 }
         ensures { MatchResult result (λ end. Walked (body_form self.entry) start cells (body_bytes self.entry) first places.old places.new end) (λ e. record_faults (body_form self.entry) start cells (body_bytes self.entry) first (body_records (body_form self.entry) (body_bytes self.entry)) ≡ Some (of_record e)) }
     {
         match self {

@@ -14,8 +14,8 @@ pub const MOST: usize = 1024;
 
 // Where the record at a place of a body ends.
 fn end_of<K: BodyKind>(body: &[u8], start: u16, at: u16) -> Result<usize, ByteFault>
-    requires body_bound { start + length body.now ≤ 65535 }
-    requires at_in_bounds { at ≤ length body.now }
+    requires short { start + length body.now ≤ 65535 }
+    requires inside { at ≤ length body.now }
     ensures { MatchResult result (λ end. (end ≡ at + K.BodyKind.form.size body.now at) × (at < end) × (end ≤ length body.now)) (λ e. Passes K.BodyKind.form start body.now at e) }
 {
     let end = usize::from(at) + K::size(body, at);
@@ -44,8 +44,8 @@ fn check<K: BodyKind>(
     number: usize,
     at: u16,
 ) -> Result<usize, RecordFault>
-    requires body_bound { start + length body.now ≤ 65535 }
-    requires at_in_bounds { at ≤ length body.now }
+    requires short { start + length body.now ≤ 65535 }
+    requires inside { at ≤ length body.now }
     ensures { MatchResult result (λ end. Passed K.BodyKind.form start cells body.now number at end) (λ e. record_fault K.BodyKind.form start cells body.now number at ≡ Some (of_record e)) }
 {
     let end = end_of::<K>(body, start, at)?;
@@ -69,9 +69,9 @@ pub fn walk<K: BodyKind>(
     first: usize,
     places: &mut [u16],
 ) -> Result<usize, RecordFault>
-    requires body_bound { start + length body.now ≤ 65535 }
-    requires first_bound { first ≤ 1024 }
-    requires places_len { length places.old ≡ 1024 }
+    requires short { start + length body.now ≤ 65535 }
+    requires few { first ≤ 1024 }
+    requires room { length places.old ≡ 1024 }
     ensures { MatchResult result (λ end. Walked K.BodyKind.form start cells body.now first places.old places.new end) (λ e. record_faults K.BodyKind.form start cells body.now first (body_records K.BodyKind.form body.now) ≡ Some (of_record e)) }
 {
     let mut number = first;

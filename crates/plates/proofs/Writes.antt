@@ -1,21 +1,21 @@
 -- A loop that writes f x over each row x, and notes whether one differs.
-use Rattle.std.proofs.Common.{◌≡◌, ℕ, ◌+◌, ◌<◌, ◌≤◌, Bool, true, false, not, ◌≢◌, ◌⊎◌, List, map, length, get_or, set, sym, refl, ap, ◌∙◌, inl, inr, arith, get_or-set_other, get_or-set_same, below_more}
+use Rattle.std.proofs.Common.{◌≡◌, ℕ, ◌+◌, ◌<◌, ◌≤◌, Bool, true, false, ◌&&◌, not, eqb, ◌≢◌, ◌⊎◌, List, map, length, get_or, set, sym, refl, ap, ◌∙◌, inl, inr, arith, get_or-set_other, get_or-set_same, below_more}
 use Rattle.std.proofs.lemmas.List.{length-map, get_or-map}
 use Rattle.std.proofs.lemmas.Bool.{true≢false}
 use Rattle.bounds.specs.declared.row.Row.{Row}
 use Rattle.bounds.specs.Boards.{none_row}
 use Rattle.bounds.proofs.Places.{same_rows}
-use Rattle.rules.proofs.Compared.{Compared, rows_differ, rows_agree}
+use Rattle.rules.proofs.Compared.{rows_differ, rows_agree}
 use Rattle.plates.specs.declared.frame.Frame.{Frame}
 use Rattle.plates.specs.Form.{count_of}
 use Rattle.plates.specs.Work.{Wrote}
 
 -- what `!=` on rows says
 abbrev pub Differ : Row → Row → Bool → Type 0
-Differ a b r = (x : Bool) × Compared a b x × (r ≡ not x)
+Differ a b r = r ≡ not (eqb a.low b.low && eqb a.high b.high)
 
 pub differ : (a b : Row) (r : Bool) → Differ a b r → (r ≡ true → a ≢ b) × (r ≡ false → a ≡ b)
-differ a b r (x, h, e) = (λ t. rows_differ a b x h (sym t ∙ e), λ t. rows_agree a b x h (sym t ∙ e))
+differ a b r e = (λ t. rows_differ a b _ refl (sym t ∙ e), λ t. rows_agree a b _ refl (sym t ∙ e))
 
 -- the rows xs were there, and ys is there now, written below i
 pub record Writing (f : Row → Row) (xs ys : List Row) (i : ℕ) (b : Bool) : Type 0 where

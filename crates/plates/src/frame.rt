@@ -34,7 +34,7 @@ pub struct Frame {
 
 // One more high to choose from: the largest sums of at most so many of them.
 fn admit(top: &mut [u32], count: usize, high: u16)
-    requires count_in_bounds { count + 1 < length top.old }
+    requires room { count + 1 < length top.old }
     requires light { Light top.old count 4194304 }
     ensures { Admitted top.old top.new count high }
 {
@@ -45,8 +45,8 @@ fn admit(top: &mut [u32], count: usize, high: u16)
 }
 
 fn add_up(counts: &[Row], top: &mut [u32]) -> Sums
-    requires counts_len_bound { length counts.now ≤ 64 }
-    requires top_len { length top.old ≡ 65 }
+    requires few { length counts.now ≤ 64 }
+    requires whole { length top.old ≡ 65 }
     ensures sums { Summed counts.now result 64 }
     ensures tops { Topped counts.now top.new result 64 }
 {
@@ -76,8 +76,8 @@ fn add_up(counts: &[Row], top: &mut [u32]) -> Sums
 
 // The first k from least on, and up to most, with a sum of at least floor, or the last.
 fn first_from(top: &[u32], base: u32, floor: u32, least: u32, most: u32) -> u32
-    requires most_in_bounds { most < length top.now }
-    requires base_bound { base < 4194304 }
+    requires inside { most < length top.now }
+    requires base { base < 4194304 }
     requires light { Light top.now most 4194304 }
     ensures { result ≡ seek (sum_at top.now base) floor least (most - least) }
 {
@@ -156,8 +156,8 @@ impl Frame {
 
     fn low(&self, low: u32, high: u32) -> u32
         requires small { Small self.now }
-        requires low_bound { low < 65536 }
-        requires high_bound { high < 65536 }
+        requires low { low < 65536 }
+        requires high { high < 65536 }
         ensures is { result ≡ low_of self.now low high }
         ensures fits { result < 65536 }
     {
@@ -175,8 +175,8 @@ impl Frame {
 
     fn high(&self, low: u32, high: u32) -> u32
         requires small { Small self.now }
-        requires low_bound { low < 65536 }
-        requires high_bound { high < 65536 }
+        requires low { low < 65536 }
+        requires high { high < 65536 }
         ensures is { result ≡ high_of self.now low high }
         ensures fits { result < 65536 }
     {

@@ -23,9 +23,9 @@ pub struct Plate<'f> {
 
 // Narrows the rows of the slots, the variety and the counts to the hull of the fillings that meet the rule.
 pub(crate) fn narrow(rows: &mut [Row]) -> Change
-    requires in_bounds { 2 ≤ length rows.old }
-    requires rows_len_bound { length rows.old ≤ 66 }
-    requires rows_value { sound rows.old ≡ true }
+    requires two { 2 ≤ length rows.old }
+    requires few { length rows.old ≤ 66 }
+    requires sound { sound rows.old ≡ true }
     ensures { Narrows (exact plate) rows.old rows.new result }
 {
     let old_slots = rows[0];

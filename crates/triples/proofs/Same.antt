@@ -1,24 +1,13 @@
--- What `==` on rows says: whether they are the same.
-use Rattle.std.proofs.Common.{◌≡◌, Bool, true, false, List, [], ◌∷◌, length, Decides, refl, ap, subst, ap₂, inl, inr}
-use Rattle.std.specs.Cmp.Lexicographic.{Same, Apart, pointwise}
-use Rattle.std.proofs.lemmas.Bool.{false≢true}
+-- What `==` on lists of rows says: whether they are the same.
+use Rattle.std.proofs.Common.{◌≡◌, Bool, List, ◌&&◌, eqb, Decides, refl}
+use Rattle.std.specs.Cmp.Lexicographic.{pointwise, pointwise_decides}
+use Rattle.std.proofs.lemmas.Bool.Decides.{Decides-at}
 use Rattle.bounds.specs.declared.row.Row.{Row}
-use Rattle.bounds.specs.contracts.row.RowPartialEq.TheImpl.{ghosts}
-use Rattle.bounds.proofs.Places.{same_row}
+use Rattle.rules.proofs.Compared.{compared_decides}
 
-same_rows : (xs ys : List Row) → Same ghosts.eq xs ys → xs ≡ ys
-same_rows [] [] s = refl
-same_rows [] (y ∷ ys) s = absurd s
-same_rows (x ∷ xs) [] s = absurd s
-same_rows (x ∷ xs) (y ∷ ys) s = ap₂ ◌∷◌ (same_row x y (s.0.0.0 refl) (s.0.1.0 refl)) (same_rows xs ys s.1)
+-- as the derived `eq` of rows compares them
+abbrev pub same_row_test : Row → Row → Bool
+same_row_test a b = eqb a.low b.low && eqb a.high b.high
 
-apart_rows : (xs : List Row) → Apart ghosts.eq xs xs → ⊥
-apart_rows [] a = a
-apart_rows (x ∷ xs) (inl f) = f (λ d. false≢true (d.1 refl)) (λ d. false≢true (d.1 refl))
-apart_rows (x ∷ xs) (inr a) = apart_rows xs a
-
-pub rows_decided : (xs ys : List Row) (r : Bool) → (r ≡ pointwise ghosts.eq xs ys) → Decides r (xs ≡ ys)
-rows_decided xs ys true m = (λ _. same_rows xs ys m.1, λ _. refl)
-rows_decided xs ys false (inl n) = (λ e. absurd (false≢true e), λ e. absurd (n (ap length e)))
-rows_decided xs ys false (inr a) =
-    (λ e. absurd (false≢true e), λ e. absurd (apart_rows ys (subst (λ l. Apart ghosts.eq l ys) e a)))
+pub rows_decided : (xs ys : List Row) (r : Bool) → (r ≡ pointwise same_row_test xs ys) → Decides r (xs ≡ ys)
+rows_decided xs ys r e = Decides-at r _ e (pointwise_decides same_row_test (λ a b. compared_decides a b _ refl) xs ys)

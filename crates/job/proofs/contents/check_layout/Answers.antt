@@ -1,4 +1,4 @@
-use Rattle.std.proofs.Common.{ℕ, ◌+◌, ◌*◌, length, sym, ◌∙◌, subst, inl, inr, arith}
+use Rattle.std.proofs.Common.{◌≡◌, ℕ, ◌+◌, ◌-◌, ◌*◌, length, sym, ◌∙◌, subst, inl, inr, arith}
 use Rattle.job.specs.Contents.{misplaced, entries_from}
 use Rattle.job.proofs.Listings.{place_on, place_off}
 use Rattle.job.proofs.contents.check_layout.Goals as goal
@@ -20,5 +20,6 @@ loop-i-preserved c = let f = c.args.file.now in let n = c.args.count in
     let more = place_on f n c.loop-i.i (length f) c.loop-i.start c.at-entry.result (misplaced (length f) (1 + 9 * n) 1 (entries_from n f 1))
     (omega arith) c.at-entry.ensures c.if-entry-start.false (omega arith)
     (λ e. elim c.if-end-file-2.either [ inl a ↦ omega arith | inr a ↦ absurd (a e) ]) c.loop-i.invariant in
-    let P : ℕ → Type 0 = λ p. goal.invariant·loop-i f n (1 + 9 * c.from.result) 0 p (c.loop-i.i + 1) in
+    let P : ℕ → Type 0 = λ p. misplaced (length f) p (1 + 9 * (c.loop-i.i + 1)) (entries_from (n - (c.loop-i.i + 1)) f (1 + 9 * (c.loop-i.i + 1)))
+        ≡ misplaced (length f) (1 + 9 * n) 1 (entries_from n f 1) in
     subst P (sym c.end-end.ensures) more

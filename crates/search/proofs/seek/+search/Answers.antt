@@ -6,46 +6,46 @@ use Rattle.settling.proofs.Applied.{Keeps, applied_narrower}
 use Rattle.search.proofs.Tries.{Node, keeps_same, none_voided, leaf_found, node, fixed_at, is_open, fixed_sound, fixed_length, fixed_narrower, raised_narrower, tried_room, try_found, try_none}
 use Rattle.search.proofs.seek.+search.Given as given
 use Rattle.search.proofs.seek.+search.Goals as goal
-use Rattle.search.proofs.seek.+search.Goals.{In-Some, After-copy-from-slice}
+use Rattle.search.proofs.seek.+search.Goals.{In-Some, After-copy_from_slice}
 
 at-cell : (g : given.Over) (t : ℕ) (c : goal.In-Some g t)
-    → Node (g.F.Family.meaning c.args.family.now) c.args.level.now c.settle-rows.new.rows c.in-Some.cell
+    → Node (g.F.Family.meaning c.args.family.now) c.args.level.now c.settle_rows.new.rows c.in-Some.cell
 at-cell g t c =
-    node _ (g.F.Family.lawful c.args.family.now) c.args.level.now c.loop-level.level c.settle-rows.new.rows c.in-default.field-0
-    c.loop-level.invariant.0 c.loop-level.auto.level c.in-default.ensures c.in-Some.cell c.in-Some.ensures
+    node _ (g.F.Family.lawful c.args.family.now) c.args.level.now c.loop-level.level c.settle_rows.new.rows c.in_default.field-0
+    c.loop-level.invariant.0 c.loop-level.auto.level c.in_default.ensures c.in-Some.cell c.in-Some.ensures
 
 -- the level of the try
-tried-is : (g : given.Over) (t : ℕ) (c : goal.After-copy-from-slice g t) → let a = c.settle-rows.new.rows in let i = c.in-Some.cell in
-    set c.copy-from-slice.new.self i (record { low = low_at a i; high = low_at a i }) ≡ fixed_at a i
+tried-is : (g : given.Over) (t : ℕ) (c : goal.After-copy_from_slice g t) → let a = c.settle_rows.new.rows in let i = c.in-Some.cell in
+    set c.copy_from_slice.new.self i (record { low = low_at a i; high = low_at a i }) ≡ fixed_at a i
 tried-is g t c =
-    let a = c.settle-rows.new.rows in
+    let a = c.settle_rows.new.rows in
     let i = c.in-Some.cell in
-    ap (λ (x : List Row). set x i (record { low = low_at a i; high = low_at a i })) c.copy-from-slice.ensures.after
+    ap (λ (x : List Row). set x i (record { low = low_at a i; high = low_at a i })) c.copy_from_slice.ensures.after
 
 pub loop-level-init : goal.loop-level-init
 loop-level-init g t c = (keeps_same _ _ c.requires.sound, refl)
 
 pub returns-in-Void : goal.returns-in-Void
 returns-in-Void g t c = (
-  none_voided _ (g.F.Family.lawful c.args.family.now) _ c.loop-level.level c.settle-rows.new.rows c.in-Void.field-0
+  none_voided _ (g.F.Family.lawful c.args.family.now) _ c.loop-level.level c.settle_rows.new.rows c.in-Void.field-0
       c.loop-level.invariant.0 c.loop-level.auto.level c.in-Void.ensures,
   c.loop-level.invariant.1,
 )
 
-pub returns-in-default-first-open : goal.returns-in-default-first-open
-returns-in-default-first-open g t c =
-    leaf_found _ (g.F.Family.lawful c.args.family.now) _ c.loop-level.level c.settle-rows.new.rows c.in-default.field-0
-    c.loop-level.invariant.0 c.loop-level.auto.level c.in-default.ensures c.in-default-first-open.ensures _ _ c.write-lows.ensures.front
-    (c.write-lows.ensures.back ∙ ap (drop (length c.settle-rows.new.rows)) c.loop-level.invariant.1)
+pub returns-in_default-first_open : goal.returns-in_default-first_open
+returns-in_default-first_open g t c =
+    leaf_found _ (g.F.Family.lawful c.args.family.now) _ c.loop-level.level c.settle_rows.new.rows c.in_default.field-0
+    c.loop-level.invariant.0 c.loop-level.auto.level c.in_default.ensures c.in_default-first_open.ensures _ _ c.write_lows.ensures.front
+    (c.write_lows.ensures.back ∙ ap (drop (length c.settle_rows.new.rows)) c.loop-level.invariant.1)
 
-pub split-at-mut-tried-requires : goal.split-at-mut-tried-requires
-split-at-mut-tried-requires g t c =
-    omega (arith, tried_room _ _ _ _ (at-cell g t (goal.at.split-at-mut-tried-requires g t c).In-Some) (length c.loop-level.rest) (omega arith))
+pub split_at_mut-tried-requires : goal.split_at_mut-tried-requires
+split_at_mut-tried-requires g t c =
+    omega (arith, tried_room _ _ _ _ (at-cell g t (goal.at.split_at_mut-tried-requires g t c).In-Some) (length c.loop-level.rest) (omega arith))
 
 pub search-requires : goal.search-requires
 search-requires g t c κs within =
     let d = at-cell g t (goal.at.search-requires g t c).In-Some in
-    let is = tried-is g t (goal.at.search-requires g t c).After-copy-from-slice in
+    let is = tried-is g t (goal.at.search-requires g t c).After-copy_from_slice in
     let n = ap length is ∙ fixed_length _ _ _ _ d in (
       omega (arith, ap spread is, fixed_narrower _ _ _ _ d, c.decreases),
       (
@@ -65,7 +65,7 @@ search-requires g t c κs within =
 
 pub returns-then-search : goal.returns-then-search
 returns-then-search g t c =
-    try_found _ _ _ _ (at-cell g t (goal.at.returns-then-search g t c).In-Some) _ (tried-is g t (goal.at.returns-then-search g t c).After-copy-from-slice)
+    try_found _ _ _ _ (at-cell g t (goal.at.returns-then-search g t c).In-Some) _ (tried-is g t (goal.at.returns-then-search g t c).After-copy_from_slice)
     _ _ _ c.loop-level.invariant.1 c.if-search.ensures
 
 pub raised-requires : goal.raised-requires
@@ -75,15 +75,15 @@ pub loop-level-smaller : goal.loop-level-smaller
 loop-level-smaller g t c =
     omega (
       arith,
-      ap (λ (r : Row). spread (set c.settle-rows.new.rows c.in-Some.cell r)) c.raised.ensures,
+      ap (λ (r : Row). spread (set c.settle_rows.new.rows c.in-Some.cell r)) c.raised.ensures,
       raised_narrower _ _ _ _ (at-cell g t (goal.at.loop-level-smaller g t c).In-Some),
-      applied_narrower _ (g.F.Family.lawful c.args.family.now) c.loop-level.invariant.0.still_sound c.in-default.ensures.0,
+      applied_narrower _ (g.F.Family.lawful c.args.family.now) c.loop-level.invariant.0.still_sound c.in_default.ensures.0,
     )
 
 pub loop-level-preserved : goal.loop-level-preserved
 loop-level-preserved g t c =
     let m = g.F.Family.meaning c.args.family.now in
-    subst (λ (r : Row). Keeps m c.args.level.now (set c.settle-rows.new.rows c.in-Some.cell r) × (c.search.new.plan ≡ c.args.plan.now))
+    subst (λ (r : Row). Keeps m c.args.level.now (set c.settle_rows.new.rows c.in-Some.cell r) × (c.search.new.plan ≡ c.args.plan.now))
     (sym c.raised.ensures)
-    (try_none m _ _ _ (at-cell g t (goal.at.loop-level-preserved g t c).In-Some) _ (tried-is g t (goal.at.loop-level-preserved g t c).After-copy-from-slice)
+    (try_none m _ _ _ (at-cell g t (goal.at.loop-level-preserved g t c).In-Some) _ (tried-is g t (goal.at.loop-level-preserved g t c).After-copy_from_slice)
     _ _ _ c.loop-level.invariant.1 c.if-search.ensures)

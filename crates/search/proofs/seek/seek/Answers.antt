@@ -8,12 +8,12 @@ use Rattle.search.proofs.seek.seek.Goals as goal
 pub search-requires : goal.search-requires
 search-requires g c =
     let a = c.rows-rows.result.now in
-    let is = c.copy-from-slice.ensures.after in
-    let n : length c.copy-from-slice.new.self ≡ length a = ap length is in
+    let is = c.copy_from_slice.ensures.after in
+    let n : length c.copy_from_slice.new.self ≡ length a = ap length is in
     record {
       sound = ap sound is ∙ c.rows-rows.ensures.sound;
       few = omega arith;
       counts = omega arith;
-      room = subst (λ (x : List Row). opens x * length x ≤ length c.split-at-mut-level.result.1.now) (sym is)
+      room = subst (λ (x : List Row). opens x * length x ≤ length c.split_at_mut-level.result.1.now) (sym is)
           (omega (arith, mul-le-mul_right (length a) (opens_length a), add-mul (length a) 1 (length a)));
     }

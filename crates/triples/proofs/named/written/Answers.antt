@@ -12,7 +12,7 @@ returns-then-eq g c =
 
 pub returns : goal.returns
 returns g c =
-    let after = c.copy-from-slice.ensures.after in (
+    let after = c.copy_from_slice.ensures.after in (
       ap board_of c.in-Some.is ∙ ap cells (sym after),
       λ e. both_ways c.eq.result c.if-eq.false
           ((rows_decided c.args.own.now c.in-Some.rows c.eq.result c.eq.ensures).1 (sym e ∙ after)),

@@ -12,9 +12,9 @@ returns c =
     let first = cut_is _ _ _ _ c.cut.ensures.value in
     let second = cut_is _ _ _ _ c.cut-2.ensures.value in
     let whole = cut_is _ _ _ _ c.cut-whole.ensures.value in
-    exact_array (relation Intersection) (as_three rows (omega arith)) c.if-sound.ensures (intersection_exact
+    exact_array (relation Intersection) (as_three rows (omega arith)) c.if_sound.ensures (intersection_exact
     (row_at rows 0) (row_at rows 1) (row_at rows 2) c.cut.result c.cut-2.result c.cut-whole.result
-    c.if-whole-b.a-high c.if-whole-a.b-high
+    c.if-whole-b.a_high c.if-whole-a.b_high
     (record {
       first = first;
       second = second;

@@ -8,6 +8,6 @@ use Rattle.triples.proofs.narrowing.subset.Goals as goal
 pub returns : goal.returns
 returns c =
     let rows = c.args.rows in
-    exact_array (relation Subset) (as_two rows (omega arith)) c.if-sound.ensures (subset_exact
+    exact_array (relation Subset) (as_two rows (omega arith)) c.if_sound.ensures (subset_exact
     (row_at rows 0) (row_at rows 1) c.cut.result c.cut-2.result
     (cut_is _ _ _ _ c.cut.ensures.value) (cut_is _ _ _ _ c.cut-2.ensures.value))

@@ -12,9 +12,9 @@ returns c =
     let first = cut_is _ _ _ _ c.cut.ensures.value in
     let second = cut_is _ _ _ _ c.cut-2.ensures.value in
     let whole = cut_is _ _ _ _ c.cut-whole.ensures.value in
-    exact_array (relation Union) (as_three rows (omega arith)) c.if-sound.ensures (union_exact
+    exact_array (relation Union) (as_three rows (omega arith)) c.if_sound.ensures (union_exact
     (row_at rows 0) (row_at rows 1) (row_at rows 2) c.cut.result c.cut-2.result c.cut-whole.result
-    c.if-b-whole.a-low c.if-a-whole.b-low
+    c.if-b-whole.a_low c.if-a-whole.b_low
     (record {
       first = first;
       second = second;

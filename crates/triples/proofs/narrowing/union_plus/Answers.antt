@@ -11,7 +11,7 @@ returns c =
     let first = cut_is _ _ _ _ c.cut.ensures.value in
     let second = cut_is _ _ _ _ c.cut-2.ensures.value in
     let whole = cut_is _ _ _ _ c.cut-3.ensures.value in
-    exact_array (relation UnionPlus) (as_three rows (omega arith)) c.if-sound.ensures (plus_exact
+    exact_array (relation UnionPlus) (as_three rows (omega arith)) c.if_sound.ensures (plus_exact
     (row_at rows 0) (row_at rows 1) (row_at rows 2) c.cut.result c.cut-2.result c.cut-3.result 65535
     (record {
       first = (omega arith, omega arith);

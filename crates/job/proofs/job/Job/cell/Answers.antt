@@ -14,7 +14,7 @@ returns c = let t = c.args.self.now.tally in let f = c.args.self.now.file.now in
     let same : c.from.result + 4 * c.from-2.result ≡ get_or (spaced t.cells t.start) n 0 = omega (arith, at, c.from.ensures, c.from-2.ensures) in (
       omega (arith, length_spaced t.cells t.start),
       λ i. record {
-        low = (c.u16-at.ensures ∙ ap (number 2 f) same) i;
-        high = (c.u16-at-2.ensures ∙ ap (λ (p : ℕ). number 2 f (p + 2)) same) i;
+        low = (c.u16_at.ensures ∙ ap (number 2 f) same) i;
+        high = (c.u16_at-2.ensures ∙ ap (λ (p : ℕ). number 2 f (p + 2)) same) i;
       },
     )
