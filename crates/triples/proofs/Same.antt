@@ -10,4 +10,4 @@ abbrev pub same_row_test : Row → Row → Bool
 same_row_test a b = eqb a.low b.low && eqb a.high b.high
 
 pub rows_decided : (xs ys : List Row) (r : Bool) → (r ≡ pointwise same_row_test xs ys) → Decides r (xs ≡ ys)
-rows_decided xs ys r e = Decides-at r _ e (pointwise_decides same_row_test (λ a b. compared_decides a b _ refl) xs ys)
+rows_decided xs ys r e = Decides-at r _ e (pointwise_decides (λ a b. compared_decides a b _ refl) xs ys)

@@ -7,6 +7,6 @@ use Rattle.boards.proofs.board_of.Goals as goal
 pub returns : goal.returns
 returns c =
     let job = job_rows c.args.job.now in
-    let fit = ap₂ (unfit (length job) job) (sym c.len.ensures) (sym c.len-2.ensures) ∙ sym c.in-default.ensures in
-    opened job c.args.rows c.args.saved _ c.fill.new.rows c.from.result c.deref-mut.ensures.value (omega arith)
+    let fit = ap₂ (unfit (length job) job) (sym c.len.ensures) (sym c.len-2.ensures) ∙ sym c.in_default.ensures in
+    opened job c.args.rows c.args.saved _ c.fill.new.rows c.from.result c.deref_mut.ensures.value (omega arith)
     (c.from.ensures ∙ c.count.ensures) c.fill.ensures.front c.fill.ensures.past fit c.over.result c.over.ensures

@@ -18,12 +18,12 @@ loop-call-init g c =
 
 pub loop-call-preserved : goal.loop-call-preserved
 loop-call-preserved g c =
-    let items = c.push-reserved.ensures.items ∙ ap (λ (l : List Answer). l ++ c.in-Ok.answer ∷ []) c.reserve.ensures.items in (
+    let items = c.push_reserved.ensures.items ∙ ap (λ (l : List Answer). l ++ c.in-Ok.answer ∷ []) c.reserve.ensures.items in (
       ran_next _ (g.F.Family.lawful c.args.family.now) c.args.board.now c.args.plan.now c.args.scratch.now
           c.loop-call.board c.step.new.board c.loop-call.plan c.step.new.plan c.loop-call.scratch c.step.new.scratch c.args.script.now c.loop-call.call-index _
           (vec_items c.loop-call.answers) _ c.in-Ok.answer (omega arith) c.loop-call.auto.plan c.loop-call.auto.scratch items
           c.loop-call.invariant.0 c.in-Ok.ensures,
-      omega (arith, c.push-reserved.ensures.len, c.reserve.ensures.len),
+      omega (arith, c.push_reserved.ensures.len, c.reserve.ensures.len),
     )
 
 pub returns : goal.returns
@@ -39,8 +39,8 @@ returns g c =
       determined = determined m;
     }
 
-pub returns-then-is-err : goal.returns-then-is-err
-returns-then-is-err g c =
+pub returns-then-is_err : goal.returns-then-is_err
+returns-then-is_err g c =
     let laws = g.F.Family.lawful c.args.family.now in
     record { runs = search rules; promise = kept _ laws; accounts = accounts _ laws; determined = determined _ }
 

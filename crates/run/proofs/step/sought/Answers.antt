@@ -7,12 +7,12 @@ returns-in-Err g c =
     made_refused _ (g.F.Family.lawful c.args.family.now) c.args.board.now c.args.plan.now c.seek.new.plan c.args.scratch.now c.seek.new.scratch
     c.seek.auto.plan c.seek.auto.scratch c.seek.result c.seek.ensures.does c.seek.ensures.memory c.in-Err.why c.in-Err.is
 
-pub returns-in-ok-extend-from-slice : goal.returns-in-ok-extend-from-slice
-returns-in-ok-extend-from-slice g c =
+pub returns-in_ok-extend_from_slice-in-Plan : goal.returns-in_ok-extend_from_slice-in-Plan
+returns-in_ok-extend_from_slice-in-Plan g c =
     let q = c.seek.new.plan in
     made_found _ (g.F.Family.lawful c.args.family.now) c.args.board.now c.args.plan.now q c.args.scratch.now c.seek.new.scratch
-    c.seek.auto.plan c.seek.auto.scratch c.seek.result c.seek.ensures.does c.seek.ensures.memory c.extend-from-slice.new.self
-    (c.in-ok-extend-from-slice.ensures.items ∙ ap (λ (l : List ℕ). l ++ take c.cells-cells.result q) c.in-ok-counts.ensures.items
+    c.seek.auto.plan c.seek.auto.scratch c.seek.result c.seek.ensures.does c.seek.ensures.memory c.extend_from_slice.new.self
+    (c.in_ok-extend_from_slice-in-Plan.ensures.items ∙ ap (λ (l : List ℕ). l ++ take c.cells-cells.result q) c.in_ok-counts.ensures.items
     ∙ ap (λ (i : ℕ). take i q) c.cells-cells.ensures.value)
     (c.in-Ok.is ∙ ap Ok c.in-Plan.is)
 

@@ -7,13 +7,13 @@ use Rattle.triples.proofs.named.written.Goals as goal
 
 pub returns-then-eq : goal.returns-then-eq
 returns-then-eq g c =
-    let same = (rows_decided c.args.own.now c.in-Some.rows c.eq.result c.eq.ensures).0 c.if-eq.true in
-    (ap board_of c.in-Some.is ∙ ap cells (sym same), refl)
+    let same = (rows_decided c.args.own.now c.as_slice.result.now c.eq.result c.eq.ensures).0 c.if-eq.true in
+    (ap board_of c.in-Some.is ∙ ap cells (sym (same ∙ c.as_slice.ensures)), refl)
 
 pub returns : goal.returns
 returns g c =
     let after = c.copy_from_slice.ensures.after in (
       ap board_of c.in-Some.is ∙ ap cells (sym after),
       λ e. both_ways c.eq.result c.if-eq.false
-          ((rows_decided c.args.own.now c.in-Some.rows c.eq.result c.eq.ensures).1 (sym e ∙ after)),
+          ((rows_decided c.args.own.now c.as_slice.result.now c.eq.result c.eq.ensures).1 (sym e ∙ after ∙ sym c.as_slice.ensures)),
     )

@@ -9,8 +9,8 @@ use Rattle.house.proofs.Closed.{two}
 use Rattle.house.proofs.named.MirrorNamed.narrow_own.Goals as goal
 use Rattle.house.proofs.named.MirrorNamed.narrow_own.Goals.{else-eq-via-then-eq+else-eq-2, else-eq-via-else-eq}
 
-pub returns-in-default : goal.returns-in-default
-returns-in-default c = (ap (exact (alike c.args.self.now.most)) (as_two c.args.own.now c.requires.own) ∙ c.in-default.ensures, refl)
+pub returns-in_default : goal.returns-in_default
+returns-in_default c = (ap (exact (alike c.args.self.now.most)) (as_two c.args.own.now c.requires.own) ∙ c.in_default.ensures, refl)
 
 pub returns-then-eq-2 : goal.returns-then-eq-2
 returns-then-eq-2 c =

@@ -11,7 +11,7 @@ use Rattle.totals.proofs.total.Total.limits.Goals as goal
 pub loop-i-init : goal.loop-i-init
 loop-i-init c =
     let t = c.args.self.now in
-    let start = c.from-floor-to-ceiling-limits.ensures in (
+    let start = c.from_floor_to_ceiling-limits.ensures in (
       start ∙ (ap₂ (λ f g. limits [] f g []) c.floor.ensures c.ceiling.ensures ∙ limits_none (weights t) (record_of t).floor (record_of t).ceiling),
       omega (arith, ap (λ x. x.least) start),
       omega (arith, ap (λ x. x.most) start),

@@ -1,4 +1,5 @@
-use Rattle.std.proofs.Common.{◌+◌, ◌≤◌, sym, ap, ◌∙◌, subst, arith}
+use Rattle.std.proofs.Common.{◌+◌, ◌≤◌, get_or, sym, refl, ap, ◌∙◌, subst, arith}
+use Rattle.bounds.specs.Boards.{none_row}
 use Rattle.bounds.proofs.Places.{low_at, high_at}
 use Rattle.rule_families.specs.declared.change.Change.{Change}
 use Rattle.rules.proofs.Compared.{rows_differ, rows_agree}
@@ -26,15 +27,14 @@ loop-i-preserved c =
     let t = c.args.self.now in
     let a = c.args.own.now in
     let i = c.loop-i.i in
-    let (x, compared, told) = c.ne.ensures in
     let new = new_at t a c.args.limits c.requires i c.weight.result c.loop-i-test.true c.weight.ensures c.bound-new.result c.bound-new.ensures in
     let sound : low_at (new_rows t a) i ≤ high_at (new_rows t a) i = omega (arith, ap (λ r. r.low) new, ap (λ r. r.high) new) in
     let Next : Change → Type 0 = Far (new_rows t a) a (i + 1) in
     elim c.if-ne.branch [
       | goal.then-ne w ↦ subst Next (sym w.change-is)
-          (far_other (new_rows t a) a i c.loop-i.change c.loop-i.invariant sound (λ same. rows_differ _ _ x compared (sym w.if-ne.true ∙ told) (sym new ∙ same)))
+          (far_other (new_rows t a) a i c.loop-i.change c.loop-i.invariant sound (λ same. rows_differ c.bound-new.result (get_or a i none_row) _ refl (sym w.if-ne.true ∙ c.ne.ensures) (sym new ∙ same)))
       | goal.else-ne w ↦ subst Next (sym w.change-is)
-          (far_same (new_rows t a) a i c.loop-i.change c.loop-i.invariant sound (new ∙ rows_agree _ _ x compared (sym w.if-ne.false ∙ told)))
+          (far_same (new_rows t a) a i c.loop-i.change c.loop-i.invariant sound (new ∙ rows_agree c.bound-new.result (get_or a i none_row) _ refl (sym w.if-ne.false ∙ c.ne.ensures)))
     ]
 
 pub returns : goal.returns
