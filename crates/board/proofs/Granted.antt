@@ -1,18 +1,12 @@
 -- When a call on a board in memory is granted, and the state that it leaves.
-use Rattle.std.proofs.Common.{◌≡◌, ℕ, ◌<◌, ◌≤◌, true, false, cond, ltb, leb, List, length, get_or, take, set, Some, None, vec_items, sym, refl, ap, ◌∙◌, subst, arith}
-use lib.Seq.{take-set-lt}
-use Rattle.std.proofs.lemmas.List.{length-take-le, get_or-take}
-use Rattle.std.proofs.lemmas.Bool.{cond-true, cond-false, lt-ltb, le-ltb, le-leb, lt-leb}
-use Rattle.bounds.specs.declared.row.Row.{Row}
-use Rattle.board.specs.declared.control.Control.{Control}
+use Rattle.std.proofs.Common.{◌≡◌, ℕ, ◌<◌, ◌≤◌, cond, ltb, length, Some, None, vec_items, ◌∙◌, arith}
+use Rattle.std.proofs.lemmas.List.{length-take-le}
+use Rattle.std.proofs.lemmas.Bool.{cond-true, cond-false, lt-ltb, le-ltb}
 use Rattle.board.specs.declared.board.Board.{Board}
-use Rattle.bounds.specs.Boards.{none_row}
-use Rattle.board.specs.Calls.{State, is_open, older, at, refusal, tighten, ask, opening, keep, after_tighten, with_board}
-use Rattle.bounds.specs.Cells.{common}
+use Rattle.board.specs.Calls.{is_open, older, at, refusal, opening, keep}
 use Rattle.board.specs.Records.{place_of}
-use Rattle.board.specs.Held.{state, state_of}
+use Rattle.board.specs.Held.{state}
 use Rattle.board.proofs.Slots.{length_trials, Found, none_found, some_found}
-use Rattle.bounds.proofs.Places.{low_at, high_at, sound_at}
 
 module _ (b : Board) where
   pub rows_length : length (state b).rows ≡ b.control.cells

@@ -1,5 +1,5 @@
 -- The trials of the trial memory.
-use Rattle.std.proofs.Common.{◌≡◌, ℕ, zero, suc, ◌+◌, ◌*◌, ◌<◌, ◌≤◌, Bool, true, false, cond, eqb, ◌≢◌, List, [], ◌∷◌, length, get_or, take, drop, set, Some, None, vec_items, vec_len, Vec, sym, refl, ap, ◌∙◌, subst, mul-le-mul_right, suc-mul, add-mul, one-mul, zero-add, add-one, arith}
+use Rattle.std.proofs.Common.{◌≡◌, ℕ, zero, suc, ◌+◌, ◌*◌, ◌<◌, ◌≤◌, Bool, true, false, cond, eqb, ◌≢◌, List, ◌∷◌, length, get_or, take, drop, set, Some, None, vec_items, vec_len, Vec, sym, refl, ap, ◌∙◌, subst, mul-le-mul_right, suc-mul, add-mul, one-mul, zero-add, add-one, arith}
 use Rattle.std.specs.Vec.{with_items}
 use Rattle.std.specs.declared.alloc.Global.{Global}
 use Rattle.std.proofs.lemmas.List.{length-take-le, length-drop, take-take, drop-take, get_or-set_same, get_or-set_other, with_items_is}

@@ -1,11 +1,10 @@
 -- The board that is made of the memory into which a job's rows were written.
-use Rattle.std.proofs.Common.{◌≡◌, ℕ, List, length, take, drop, Some, None, Ok, Err, vec_items, vec_len, Option, Result, Vec, sym, ap, ◌∙◌, subst, arith}
+use Rattle.std.proofs.Common.{◌≡◌, ℕ, List, length, take, drop, Some, None, Ok, Err, vec_items, vec_len, Result, Vec, sym, ap, ◌∙◌, arith}
 use Rattle.std.specs.Vec.{with_items}
 use Rattle.std.specs.declared.alloc.Global.{Global}
 use Rattle.std.proofs.lemmas.List.{with_items_is}
 use Rattle.bounds.specs.declared.row.Row.{Row}
 use Rattle.board.specs.declared.board.Board.{Board}
-use Rattle.board.specs.declared.unfit.Unfit.{Unfit}
 use Rattle.board.specs.declared.unfit.Refused.{Refused}
 use Rattle.board.specs.Calls.{as_read}
 use Rattle.board.specs.Makes.{unfit, Makes}

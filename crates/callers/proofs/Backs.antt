@@ -1,12 +1,12 @@
 -- Dropping a trial's slip goes back to where it was opened, whatever was tightened since.
-use Rattle.std.proofs.Common.{◌≡◌, ℕ, ◌+◌, ◌<◌, Bool, true, false, cond, eqb, leb, List, ◌∷◌, get_or, Ok, Err, Result, sym, refl, ap, ◌∙◌, arith}
+use Rattle.std.proofs.Common.{◌≡◌, ℕ, ◌+◌, true, cond, eqb, leb, ◌∷◌, get_or, Ok, Err, Result, sym, refl, ap, ◌∙◌, arith}
 use Rattle.std.proofs.lemmas.Bool.{cond_both, cond-true, eq-eqb}
 use Rattle.bounds.specs.Boards.{void, cells, none_row}
 use Rattle.bounds.specs.Cells.{common}
 use Rattle.bounds.specs.Laws.{Meaning, idle}
 use Rattle.board.specs.declared.refusal.Refusal.{Refusal}
 use Rattle.board.specs.declared.board.trials.Slip.{Slip}
-use Rattle.board.specs.Calls.{State, Trial, board, is_open, older, at, refusal, drop, opened, Does, with_board}
+use Rattle.board.specs.Calls.{State, Trial, board, is_open, older, at, refusal, drop, opened, Does}
 use Rattle.board.specs.Held.{state, event_of_tighten, event_of_drop}
 use Rattle.board.specs.declared.board.Board.{Board as Held}
 use Rattle.callers.specs.Trying.{LeftAsFound}

@@ -1,5 +1,5 @@
 -- No plan of two designs out of three comes before 0, 1, 2.
-use Rattle.std.proofs.Common.{◌≡◌, ℕ, zero, suc, ◌+◌, true, eqb, List, [], ◌∷◌, refl, arith}
+use Rattle.std.proofs.Common.{◌≡◌, ℕ, zero, suc, ◌+◌, eqb, List, [], ◌∷◌, refl, arith}
 use Rattle.std.proofs.lemmas.Bool.{eqb-true, and_parts}
 use Rattle.bounds.specs.Boards.{Fills}
 use Rattle.settling.specs.Plans.{Plan, Before, First}

@@ -1,5 +1,5 @@
 -- A run of a settle and a seek on the board of a job plans the job.
-use Rattle.std.proofs.Common.{◌≡◌, ℕ, cond, List, [], ◌∷◌, map, length, sym, ap, ◌∙◌, subst}
+use Rattle.std.proofs.Common.{◌≡◌, ℕ, cond, List, [], ◌∷◌, map, length, ap, ◌∙◌, subst}
 use Rattle.bounds.specs.declared.row.Row.{Row}
 use Rattle.bounds.specs.Laws.{Meaning}
 use Rattle.bounds.specs.Beside.{beside}

@@ -1,5 +1,5 @@
 -- Each refusal tells of a fault of the file.
-use Rattle.std.proofs.Common.{◌≡◌, ℕ, zero, suc, ◌+◌, ◌-◌, ◌*◌, ◌<◌, Bool, true, false, cond, not, ◌&&◌, eqb, ltb, leb, ◌⊎◌, List, [], ◌∷◌, length, get_or, Some, None, Option, sym, refl, ap, ◌∙◌, subst, inl, inr, arith}
+use Rattle.std.proofs.Common.{◌≡◌, ℕ, zero, suc, ◌+◌, ◌*◌, ◌<◌, Bool, true, false, cond, not, ◌&&◌, eqb, ltb, leb, ◌⊎◌, List, [], ◌∷◌, length, get_or, Some, None, Option, sym, refl, ap, ◌∙◌, subst, inl, inr, arith}
 use Rattle.std.proofs.lemmas.Bool.{ltb-true, ltb-false, leb-false, eqb-false, not-true, and_cases, both_ways, cases_order}
 use Rattle.bounds.specs.Scoped.{fits}
 use Rattle.records.specs.Forms.{Form, between}
@@ -7,7 +7,7 @@ use Rattle.records.specs.Refusals.{line}
 use Rattle.records.specs.declared.refused.Refused.{Refused}
 use Rattle.job.specs.Contents.{entries, entries_from, first, when, ends, contents_end, contents_fault}
 use Rattle.job.specs.Contents as contents
-use Rattle.job.specs.Reading.{Found, Reading, refused, granted, unless, body, record_fault, record_faults, rules, nothing, bodies, reading}
+use Rattle.job.specs.Reading.{Found, Reading, refused, granted, unless, record_fault, record_faults, rules, nothing, bodies, reading}
 use Rattle.job.specs.Told.{Told, long, short, uncounted, misnamed, misplaced, overruns, breaks, repeats, entry, form_at, body_at, records_at, Misnamed, Misplaced, due, before, Breaks}
 
 never : {A : Type 0} (x : Refused) → ◌≡◌ {A = Option Refused} None (Some x) → A

@@ -5,7 +5,7 @@ use Rattle.std.proofs.lemmas.Bool.{cases_lt}
 use Rattle.bounds.specs.declared.row.Row.{Row}
 use Rattle.bounds.specs.Boards.{none_row}
 use Rattle.plates.specs.declared.frame.Sums.{Sums}
-use Rattle.plates.specs.Form.{certain, optional, low_sum, base, top}
+use Rattle.plates.specs.Form.{top}
 use Rattle.plates.specs.Work.{Admitted, Summed, Topped}
 use Rattle.plates.proofs.Tops.{row, top_zero, top_certain, top_absent, top_full}
 

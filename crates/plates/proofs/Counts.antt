@@ -3,7 +3,6 @@ use Rattle.std.proofs.Common.{◌≡◌, ℕ, zero, suc, ◌+◌, ◌-◌, ◌<�
 use Rattle.std.proofs.lemmas.Bool.{leb-true, leb-false, ltb-true, ltb-false, and_parts, and_cases, cases_lt, cond_both}
 use Rattle.bounds.specs.declared.row.Row.{Row}
 use Rattle.bounds.specs.Boards.{sound}
-use Rattle.plates.specs.Plates.{one}
 use Rattle.plates.specs.Form.{certain, optional, low_sum, top, reach, frame_at, low_of, high_of}
 use Rattle.plates.proofs.Tops.{row, top_zero, top_up, top_mono, top_leaves, top_certain, top_absent, top_full, top_concave}
 use Rattle.plates.proofs.Sums.{room}

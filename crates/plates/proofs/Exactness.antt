@@ -10,7 +10,7 @@ use Rattle.bounds.proofs.Rows.{sound_set}
 use Rattle.bounds.proofs.Hulls.{Meeting}
 use Rattle.bounds.proofs.Exactly.{exact_void, exact_unique}
 use Rattle.plates.specs.Plates.{sum, present, plate}
-use Rattle.plates.specs.Form.{certain, low_sum, reach, most, fewest, feasible, frame_at, frame_of, count_of, rows_of, narrowed}
+use Rattle.plates.specs.Form.{certain, low_sum, reach, most, fewest, feasible, frame_at, count_of, rows_of, narrowed}
 use Rattle.plates.proofs.Tops.{row, top_mono}
 use Rattle.plates.proofs.Sums.{Split, split, room, attains}
 use Rattle.plates.proofs.Moves.{Same, others, same_set, same_others}

@@ -3,7 +3,7 @@ use Rattle.std.proofs.Common.{◌≡◌, ℕ, zero, suc, ◌+◌, ◌-◌, ◌<�
 use Rattle.std.proofs.lemmas.Bool.{lt-ltb, le-ltb, le-leb, lt-leb, cond-true, cond-false, and_from, and_left, and_right}
 use Rattle.bounds.specs.declared.row.Row.{Row}
 use Rattle.plates.specs.declared.frame.Sums.{Sums}
-use Rattle.plates.specs.Form.{certain, optional, low_sum, base, reach, seek, most, fewest, feasible}
+use Rattle.plates.specs.Form.{certain, low_sum, base, reach, seek, most, fewest, feasible}
 use Rattle.plates.specs.Work.{Summed, Topped, Framed, sum_at}
 use Rattle.plates.proofs.Tops.{top_mono, top_full}
 

@@ -1,7 +1,6 @@
 -- The largest sum of at most k highs.
 use Rattle.std.proofs.Common.{◌≡◌, ℕ, zero, suc, ◌+◌, ◌≤◌, List, [], ◌∷◌, sym, refl, ◌∙◌, arith}
 use Rattle.bounds.specs.declared.row.Row.{Row}
-use Rattle.plates.specs.Plates.{one}
 use Rattle.plates.specs.Form.{optional, better, top}
 
 abbrev pub row : ℕ → ℕ → Row

@@ -1,7 +1,7 @@
 -- A call has one outcome, and so has a run of calls.
 use Rattle.std.proofs.Common.{◌≡◌, ℕ, ◌+◌, ◌<◌, Bool, true, false, ◌⊎◌, List, [], ◌∷◌, map, length, get_or, sym, refl, ap, ◌∙◌, subst, ap₂, inl, inr, arith}
 use Rattle.bounds.specs.declared.row.Row.{Row}
-use Rattle.bounds.specs.Boards.{void, cells, Lies, none_row}
+use Rattle.bounds.specs.Boards.{cells, Lies, none_row}
 use Rattle.bounds.specs.Laws.{Meaning}
 use Rattle.board.specs.Calls as calls
 use Rattle.board.specs.Calls.{State, board, older, refusal, Event, refused, tightened, opened, kept, dropped, asked, settled, emptied, found, none_found, Does, Empties, after_tighten, after_open, after_drop, with_board, with_trials}

@@ -5,7 +5,7 @@ use Rattle.bounds.specs.Boards.{sound, width}
 use Rattle.bounds.specs.Laws.{Meaning, FiveLaws}
 use Rattle.board.specs.Calls.{State, board, Event}
 use Rattle.run.specs.Runs.{Run, here, then, ledger, tally}
-use Rattle.run.specs.Promise.{Newest, Promise, KeptThroughout, Accounted, Accounts}
+use Rattle.run.specs.Promise.{Newest, Promise, KeptThroughout, Accounts}
 use Rattle.run.proofs.Tightened.{enclosed_first}
 use Rattle.run.proofs.Steps.{accounted_step, bound_step}
 use Rattle.run.proofs.Answered.{newest_step}

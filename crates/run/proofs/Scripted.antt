@@ -8,7 +8,7 @@ use Rattle.board.specs.declared.board.Board.{Board}
 use Rattle.board.specs.Held.{state}
 use Rattle.run.specs.declared.call.Call.{Call}
 use Rattle.run.specs.declared.answer.Answer.{Answer}
-use Rattle.run.specs.Runs.{here, then, joined, call_in}
+use Rattle.run.specs.Runs.{here, then, joined}
 use Rattle.run.specs.Scripts.{call_of, plan_after, searches, some_searches, Stays, Made, none, one_more, Ran}
 use Rattle.run.proofs.Makes.{stays_same}
 use Rattle.run.proofs.Kept.{kept_throughout}

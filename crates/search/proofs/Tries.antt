@@ -7,7 +7,7 @@ use Rattle.bounds.specs.Laws.{Meaning, FiveLaws}
 use Rattle.bounds.proofs.Places.{low_at, high_at, same_row, sound_at, fills_at, fills_inside}
 use Rattle.bounds.proofs.Rows.{fills_lows, inside_all, cut, fills_cut, cut_fills, sound_set, spread_inside}
 use Rattle.settling.specs.declared.settled.Settled.TheVariants.{Settled, Void}
-use Rattle.settling.specs.Plans.{Plan, First, Before, NoPlan}
+use Rattle.settling.specs.Plans.{First, Before, NoPlan}
 use Rattle.settling.specs.Settles.{Settles}
 use Rattle.settling.proofs.Applied.{Keeps, applied_keeps}
 use Rattle.search.specs.Seeks.{opens, FixedBelow, FirstOpen, Searched}

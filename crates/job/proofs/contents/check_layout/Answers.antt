@@ -21,5 +21,5 @@ loop-i-preserved c = let f = c.args.file.now in let n = c.args.count in
     (omega arith) c.at-entry.ensures c.if-entry-start.false (omega arith)
     (λ e. elim c.if-end-file-2.either [ inl a ↦ omega arith | inr a ↦ absurd (a e) ]) c.loop-i.invariant in
     let P : ℕ → Type 0 = λ p. misplaced (length f) p (1 + 9 * (c.loop-i.i + 1)) (entries_from (n - (c.loop-i.i + 1)) f (1 + 9 * (c.loop-i.i + 1)))
-        ≡ misplaced (length f) (1 + 9 * n) 1 (entries_from n f 1) in
+    ≡ misplaced (length f) (1 + 9 * n) 1 (entries_from n f 1) in
     subst P (sym c.end-end.ensures) more

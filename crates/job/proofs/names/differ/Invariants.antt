@@ -1,5 +1,5 @@
 use Rattle.std.proofs.Common.{◌≡◌, drop}
-use Rattle.bounds.specs.Scoped.{names, distinct}
+use Rattle.bounds.specs.Scoped.{distinct}
 use Rattle.job.proofs.names.differ.Given as goal
 
 abbrev pub invariant-loop-i : goal.invariant-loop-i

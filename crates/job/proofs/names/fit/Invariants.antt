@@ -1,5 +1,5 @@
 use Rattle.std.proofs.Common.{◌≡◌, drop}
-use Rattle.bounds.specs.Scoped.{fits, names}
+use Rattle.bounds.specs.Scoped.{fits}
 use Rattle.job.proofs.names.fit.Given as goal
 
 abbrev pub invariant-loop-i : goal.invariant-loop-i

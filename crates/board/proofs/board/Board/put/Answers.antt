@@ -1,4 +1,4 @@
-use Rattle.std.proofs.Common.{◌≡◌, ◌<◌, ◌≤◌, true, length, take, set, vec_items, refl, ap, ◌∙◌, arith}
+use Rattle.std.proofs.Common.{◌≡◌, ◌<◌, ◌≤◌, true, take, set, vec_items, refl, ap, ◌∙◌, arith}
 use lib.Seq.{take-set-lt}
 use Rattle.std.proofs.lemmas.List.{drop-set-lt}
 use Rattle.bounds.specs.declared.row.Row.{Row}
@@ -6,7 +6,6 @@ use Rattle.bounds.specs.declared.cell.Cell.{Cell}
 use Rattle.bounds.specs.Boards.{sound}
 use Rattle.bounds.specs.Cells.{row_of}
 use Rattle.bounds.proofs.Rows.{sound_set}
-use Rattle.board.specs.declared.board.Board.{Board}
 use Rattle.board.specs.Held.{state}
 use Rattle.board.proofs.Granted.{rows_length}
 use Rattle.board.proofs.board.Board.put.Goals as goal

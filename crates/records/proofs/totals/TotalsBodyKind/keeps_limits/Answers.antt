@@ -1,6 +1,6 @@
-use Rattle.std.proofs.Common.{◌≡◌, ℕ, ◌+◌, Bool, sym, ap, ◌∙◌, inl, inr, arith}
-use Rattle.records.specs.Records.{total_at, terms}
-use Rattle.records.specs.Forms.{total_limits, weighted}
+use Rattle.std.proofs.Common.{◌+◌, sym, ap, ◌∙◌, inl, inr, arith}
+use Rattle.records.specs.Records.{terms}
+use Rattle.records.specs.Forms.{weighted}
 use Rattle.records.specs.declared.totals.TotalHead.{TotalHead}
 use Rattle.records.proofs.Fields.{total_in, total_out, total_limits_of}
 use Rattle.records.proofs.totals.TotalsBodyKind.keeps_limits.Goals as goal

@@ -1,4 +1,4 @@
-use Rattle.std.proofs.Common.{ℕ, ◌+◌, sym, ap, ◌∙◌, arith}
+use Rattle.std.proofs.Common.{◌+◌, sym, ap, ◌∙◌, arith}
 use Rattle.records.specs.Bytes.{number}
 use Rattle.records.proofs.Fields.{length_cells, get_or_cells}
 use Rattle.records.proofs.totals.TotalsBodyKind.name.Goals as goal

@@ -1,4 +1,4 @@
-use Rattle.std.proofs.Common.{ℕ, ◌+◌, ◌-◌, ◌*◌, inl, inr, arith}
+use Rattle.std.proofs.Common.{inl, inr, arith}
 use Rattle.records.proofs.Fields.{weights_on, weights_off}
 use Rattle.records.specs.Records.{terms}
 use Rattle.records.specs.Forms.{weighted}
