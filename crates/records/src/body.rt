@@ -1,5 +1,5 @@
 // What the four kinds of body share.
-ghost use Rattle.std.specs.Prelude.{◌≡◌, ℕ, ◌^◌, ◌<◌, List, length, slice_index};
+ghost use Rattle.std.specs.Prelude.{◌≡◌, ℕ, ◌^◌, ◌<◌, max, List, length, slice_index};
 ghost use Rattle.records.specs.Forms.{Form};
 ghost use Rattle.records.specs.Kinds.{kind_number};
 
@@ -36,7 +36,8 @@ pub trait BodyKind {
     fn arity(body: &[u8], place: u16) -> usize
         ensures { result ≡ length (form.names body.now place) };
 
+    // Of a record that names no cell, as one of a body of cells, the first may be asked all the same.
     fn name(body: &[u8], place: u16, index: usize) -> u16
-        requires { index < length (form.names body.now place) }
-        ensures { result ≡ slice_index (form.names body.now place) index };
+        requires { index < max 1 (length (form.names body.now place)) }
+        ensures { index < length (form.names body.now place) → result ≡ slice_index (form.names body.now place) index };
 }

@@ -12,6 +12,6 @@ overflow_add-from-2 c = let b = c.args.body.now in let i = c.args.place in
     omega (arith, c.requires, length_cells (number 2 b i) b (i + 18), c.type_inv.body i, c.type_inv.body (i + 1))
 
 pub returns : goal.returns
-returns c = let b = c.args.body.now in let i = c.args.place in
+returns c = λ h. let b = c.args.body.now in let i = c.args.place in
     c.u16_at.ensures ∙ ap (number 2 b) (omega arith)
-    ∙ sym (get_or_cells (number 2 b i) b (i + 18) c.args.index (omega (arith, c.requires, length_cells (number 2 b i) b (i + 18))))
+    ∙ sym (get_or_cells (number 2 b i) b (i + 18) c.args.index (omega (arith, h, length_cells (number 2 b i) b (i + 18))))
