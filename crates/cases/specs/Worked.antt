@@ -56,7 +56,7 @@ pub record TooFew : Type 0 where
   pub narrowed : ((plate two_designs).rule 0).narrowed too_few ≡ void
   pub settles : Settles (plate two_designs) too_few too_few (Void 1)
 
--- the record of a triple of the cells 0, 1 and 2: its kind, 1 for a union and 3 for a union_plus, and its cells
+-- the record of a triple of the cells 0, 1 and 2: its kind, 1 for a union and 3 for a union-plus, and its cells
 abbrev pub triple : ℕ → Meaning
 triple kind = triples (kind ∷ 0 ∷ 0 ∷ 0 ∷ 1 ∷ 0 ∷ 2 ∷ 0 ∷ []) (0 ∷ [])
 

@@ -1,4 +1,4 @@
-// Triples: union, intersection, union_plus of three cells, and subset of two.
+// Triples: union, intersection, union-plus of three cells, and subset of two.
 ghost use Rattle.std.specs.Prelude.{◌+◌};
 ghost use Rattle.records.specs.Bytes.{number};
 ghost use Rattle.records.specs.Forms.{triples_form};

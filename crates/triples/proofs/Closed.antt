@@ -44,7 +44,7 @@ pub record IntersectionRows (a b c g h k : Row) (x y : ℕ) : Type 0 where
   pub first_high : IfBelow k.high b.low x k.high a.high
   pub second_high : IfBelow k.high a.low y k.high b.high
 
--- of a union_plus, with sums that stop at a number that no count of c exceeds
+-- of a union-plus, with sums that stop at a number that no count of c exceeds
 pub record PlusRows (a b c g h k : Row) (top : ℕ) : Type 0 where
   pub first : Cut g a (c.low - b.high) (c.high - b.low)
   pub second : Cut h b (c.low - a.high) (c.high - a.low)

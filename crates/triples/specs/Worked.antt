@@ -10,7 +10,7 @@ use Rattle.triples.specs.declared.kind.TripleKind.TheVariants.{Union, UnionPlus}
 abbrev pub row : ℕ → ℕ → Row
 row low high = record { low = low; high = high }
 
--- a union of cells 3 and 0 in cell 1 at place 2, and a union_plus of cells 0 and 1 in cell 2 at place 10
+-- a union of cells 3 and 0 in cell 1 at place 2, and a union-plus of cells 0 and 1 in cell 2 at place 10
 abbrev pub records : List ℕ
 records = 7 ∷ (7 ∷ (1 ∷ (0 ∷ (3 ∷ (0 ∷ (0 ∷ (0 ∷ (1 ∷ (0 ∷ (3 ∷ (0 ∷ (0 ∷ (0 ∷ (1 ∷ (0 ∷ (2 ∷ (0 ∷ [])))))))))))))))))
 

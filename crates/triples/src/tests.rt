@@ -3,7 +3,7 @@ use bounds::row::Row;
 use rule_families::change::Change;
 use rule_families::family::Family;
 
-// A union of cells 3 and 0 in cell 1, a union_plus of 0 and 1 in 2, a subset of 1 in 0, and a record of no kind.
+// A union of cells 3 and 0 in cell 1, a union-plus of 0 and 1 in 2, a subset of 1 in 0, and a record of no kind.
 const FILE: [u8; 32] = [
     1, 0, 3, 0, 0, 0, 1, 0, //
     3, 0, 0, 0, 1, 0, 2, 0, //
