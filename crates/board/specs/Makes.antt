@@ -13,8 +13,8 @@ use Rattle.board.specs.Held.{state}
 -- why n rows make no board in memory for so many rows and so many saved ones: not 1 to 1,024 of them, too little memory,
 -- a low above its high
 abbrev pub unfit : ℕ → List Row → ℕ → ℕ → Option Unfit
-unfit n rows room trial-room =
-    cond (nat_le 1 n && nat_le n 1024) (cond (nat_le n room && nat_le (16 * n) trial-room) (cond (sound rows) None (Some Unsound)) (Some Room)) (Some Size)
+unfit n rows room trial_room =
+    cond (nat_le 1 n && nat_le n 1024) (cond (nat_le n room && nat_le (16 * n) trial_room) (cond (sound rows) None (Some Unsound)) (Some Room)) (Some Size)
 
 abbrev pub Makes : Vec Row Global → Vec Row Global → ℕ → Result Board Refused → Type 0
 Makes rows saved n (Ok b) =
