@@ -1,18 +1,18 @@
 -- A loop that writes f x over each row x, and notes whether one differs.
-use Rattle.std.proofs.Common.{◌≡◌, ℕ, ◌+◌, ◌<◌, ◌≤◌, Bool, true, false, ◌&&◌, not, eqb, ◌≢◌, ◌⊎◌, List, map, length, get_or, set, sym, refl, ap, ◌∙◌, inl, inr, arith, get_or-set_other, get_or-set_same, below_more}
+use Rattle.std.proofs.Common.{◌≡◌, ℕ, ◌+◌, ◌<◌, ◌≤◌, Bool, true, false, not, ◌≢◌, ◌⊎◌, List, map, length, get_or, set, sym, refl, ap, ◌∙◌, inl, inr, arith, get_or-set_other, get_or-set_same, below_more}
 use Rattle.std.proofs.lemmas.List.{length-map, get_or-map}
 use Rattle.std.proofs.lemmas.Bool.{true≢false}
 use Rattle.bounds.specs.declared.row.Row.{Row}
 use Rattle.bounds.specs.Boards.{none_row}
 use Rattle.bounds.proofs.Places.{same_rows}
-use Rattle.rules.proofs.Compared.{rows_differ, rows_agree}
+use Rattle.rules.proofs.Compared.{same_row_test, rows_differ, rows_agree}
 use Rattle.plates.specs.declared.frame.Frame.{Frame}
 use Rattle.plates.specs.Form.{count_of}
 use Rattle.plates.specs.Work.{Wrote}
 
 -- what `!=` on rows says
 abbrev pub Differ : Row → Row → Bool → Type 0
-Differ a b r = r ≡ not (eqb a.low b.low && eqb a.high b.high)
+Differ a b r = r ≡ not (same_row_test a b)
 
 pub differ : (a b : Row) (r : Bool) → Differ a b r → (r ≡ true → a ≢ b) × (r ≡ false → a ≡ b)
 differ a b r e = (λ t. rows_differ a b _ refl (sym t ∙ e), λ t. rows_agree a b _ refl (sym t ∙ e))

@@ -6,9 +6,12 @@ use Rattle.bounds.specs.declared.row.Row.{Row}
 use Rattle.bounds.proofs.Places.{same_row}
 
 module _ (r s : Row) where
-  -- as the derived `eq` states it
+  -- as the derived `eq` computes it
+  abbrev pub same_row_test : Bool
+  same_row_test = eqb r.low s.low && eqb r.high s.high
+
   abbrev pub Compared : Bool → Type 0
-  Compared x = x ≡ (eqb r.low s.low && eqb r.high s.high)
+  Compared x = x ≡ same_row_test
 
   pub compared_decides : (x : Bool) → Compared x → Decides x (r ≡ s)
   compared_decides x h = Decides-like x (λ p. same_row r s p.0 p.1) (λ e. (ap (λ z. z.low) e, ap (λ z. z.high) e))
