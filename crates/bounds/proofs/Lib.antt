@@ -1,6 +1,7 @@
 pub mod Places
 pub mod Rows
 pub mod Members
+pub mod Named
 pub mod Hulls
 pub mod Exactly
 pub mod ExactLaws

@@ -1,5 +1,6 @@
 -- Lists of rows: fillings, widths, and the cut that a tightening makes.
 use Rattle.std.proofs.Common.{◌≡◌, ℕ, zero, suc, ◌+◌, ◌-◌, ◌<◌, ◌≤◌, true, leb, List, [], ◌∷◌, ◌++◌, length, get_or, take, set, refl, ap, ap₂, arith}
+use Rattle.std.proofs.lemmas.List.Sums.{sum_by-cons}
 use Rattle.std.proofs.lemmas.Bool.{and_parts, and_from, leb-true, le-leb}
 use Rattle.bounds.specs.declared.row.Row.{Row}
 use Rattle.bounds.specs.Boards.{Board, void, cells, sound, Inside, Fills, spread, width, lows, highs, none_row}
@@ -36,15 +37,17 @@ inside_ends (x ∷ a) (y ∷ b) l h = (l.0, h.1, inside_ends a b l.2 h.2)
 pub inside_all : (a b : List Row) → sound a ≡ true → ((p : List ℕ) → Fills p a → Fills p b) → Inside a b
 inside_all a b s k = inside_ends a b (k (lows a) (fills_lows a s)) (k (highs a) (fills_highs a s))
 
+pub spread_cons : (r : Row) (rs : List Row) → spread (r ∷ rs) ≡ (r.high - r.low) + spread rs
+spread_cons r rs = omega (arith, sum_by-cons (λ (x : Row). x.high - x.low) r rs)
+
 pub spread_pos : (a : List Row) → 0 < spread a
-spread_pos [] = omega arith
-spread_pos (r ∷ rs) = omega (arith, spread_pos rs)
+spread_pos a = omega arith
 
 pub spread_inside : (a b : List Row) → Inside a b → spread a ≤ spread b
 spread_inside [] [] h = omega arith
 spread_inside [] (y ∷ b) h = absurd h
 spread_inside (x ∷ a) [] h = absurd h
-spread_inside (x ∷ a) (y ∷ b) h = omega (arith, spread_inside a b h.2)
+spread_inside (x ∷ a) (y ∷ b) h = omega (arith, spread_cons x a, spread_cons y b, spread_inside a b h.2)
 
 pub spread_same : (a b : List Row) → sound a ≡ true → Inside a b → spread b ≤ spread a → a ≡ b
 spread_same [] [] s h k = refl
@@ -53,6 +56,8 @@ spread_same (x ∷ a) [] s h k = absurd h
 spread_same (x ∷ a) (y ∷ b) s h k =
     let t = sound_parts x a s in
     let w = spread_inside a b h.2 in
+    let p = spread_cons x a in
+    let q = spread_cons y b in
     ap₂ ◌∷◌ (same_row x y (omega arith) (omega arith)) (spread_same a b t.1 h.2 (omega arith))
 
 -- the rows with cell c cut to the range
@@ -82,14 +87,8 @@ sound_set (x ∷ a) (suc c) r s k =
 
 pub spread_cut : (a : List Row) (c l h : ℕ) → spread (cut a c l h) ≤ spread a
 spread_cut [] c l h = omega arith
-spread_cut (x ∷ a) zero l h = omega arith
-spread_cut (x ∷ a) (suc c) l h = omega (arith, spread_cut a c l h)
-
-pub spread_take : (a : List Row) (i : ℕ) → i < length a
-    → spread (take (suc i) a) ≡ spread (take i a) + ((get_or a i none_row).high - (get_or a i none_row).low)
-spread_take [] i k = omega arith
-spread_take (x ∷ a) zero k = omega arith
-spread_take (x ∷ a) (suc i) k = omega (arith, spread_take a i (omega arith))
+spread_cut (x ∷ a) zero l h = omega (arith, spread_cons x a, spread_cons (common x l h) a)
+spread_cut (x ∷ a) (suc c) l h = omega (arith, spread_cons x a, spread_cons x (cut a c l h), spread_cut a c l h)
 
 pub lows_take : (a : List Row) (i : ℕ) → i < length a → lows (take (suc i) a) ≡ lows (take i a) ++ (get_or a i none_row).low ∷ []
 lows_take [] i k = absurd (omega arith)

@@ -1,5 +1,6 @@
 -- Rows, boards, fillings: the order of boards, and their width.
-use Rattle.std.specs.Prelude.{◌≡◌, ℕ, ◌+◌, ◌-◌, ◌≤◌, Bool, true, ◌&&◌, List, [], ◌∷◌, nat_le}
+use Rattle.std.specs.Prelude.{◌≡◌, ℕ, ◌+◌, ◌-◌, ◌≤◌, Bool, true, List, [], ◌∷◌, nat_le, map, sum_by}
+use Rattle.std.specs.List.{list_all}
 use Rattle.bounds.specs.declared.row.Row.{Row}
 
 -- A box of bounds, one row for each cell; void holds no filling.
@@ -9,8 +10,7 @@ pub data Board : Type 0 where
 
 -- each low is at most its high
 abbrev pub sound : List Row → Bool
-sound [] = true
-sound (r ∷ rs) = nat_le r.low r.high && sound rs
+sound rs = list_all (λ r. nat_le r.low r.high) rs
 
 abbrev pub Real : Board → Type 0
 Real void = Unit {0}
@@ -47,20 +47,17 @@ Fixed (r ∷ rs) (n ∷ ns) = (r.low ≡ n) × (r.high ≡ n) × Fixed rs ns
 
 -- one more than the counts by which the highs exceed the lows
 abbrev pub spread : List Row → ℕ
-spread [] = 1
-spread (r ∷ rs) = (r.high - r.low) + spread rs
+spread rs = sum_by (λ r. r.high - r.low) rs + 1
 
 abbrev pub width : Board → ℕ
 width void = 0
 width (cells a) = spread a
 
 abbrev pub lows : List Row → List ℕ
-lows [] = []
-lows (r ∷ rs) = r.low ∷ lows rs
+lows = map (λ r. r.low)
 
 abbrev pub highs : List Row → List ℕ
-highs [] = []
-highs (r ∷ rs) = r.high ∷ highs rs
+highs = map (λ r. r.high)
 
 abbrev pub none_row : Row
 none_row = record { low = 0; high = 0 }

@@ -2,4 +2,5 @@
 
 pub mod cell;
 pub mod row;
+pub mod scope;
 pub mod theory;

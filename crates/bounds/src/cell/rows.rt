@@ -1,9 +1,37 @@
 // Rows as cells, and back.
-ghost use Rattle.std.specs.Prelude.{◌≡◌, ◌<◌, min, max, MatchOption};
+ghost use Rattle.std.specs.Prelude.{◌≡◌, ◌<◌, min, max, MatchOption, MatchResult};
 ghost use Rattle.bounds.specs.Cells.{row_of, common};
 
 use super::Cell;
 use crate::row::Row;
+
+// A row that holds no count.
+#[derive(Clone, Copy, PartialEq, Eq, Debug)]
+pub struct Empty;
+
+impl TryFrom<Row> for Cell {
+    type Error = Empty;
+
+    ghost try_from_gives = { λ row r. MatchResult r (λ c. row_of c ≡ row) (λ _. row.high < row.low) };
+
+    fn try_from(row: Row) -> Result<Cell, Empty> {
+        let Row { low, high } = row;
+        if low <= high {
+            Ok(Cell { low, high })
+        } else {
+            Err(Empty)
+        }
+    }
+}
+
+impl From<Cell> for Row {
+    ghost from_gives = { λ c r. r ≡ row_of c };
+
+    fn from(cell: Cell) -> Row {
+        let Cell { low, high } = cell;
+        Row { low, high }
+    }
+}
 
 impl Cell {
     pub fn low(self) -> u16
@@ -18,33 +46,10 @@ impl Cell {
         self.high
     }
 
-    pub fn from_row(row: Row) -> Option<Cell>
-        ensures { MatchOption result (row.high < row.low) (λ c. row_of c ≡ row) }
-    {
-        let Row { low, high } = row;
-        if low <= high {
-            Some(Cell { low, high })
-        } else {
-            None
-        }
-    }
-
-    pub fn to_row(self) -> Row
-        ensures { result ≡ row_of self }
-    {
-        Row {
-            low: self.low,
-            high: self.high,
-        }
-    }
-
     // The counts that the cell and the range have in common.
     pub fn common(self, low: u16, high: u16) -> Option<Cell>
         ensures { MatchOption result (min self.high high < max self.low low) (λ c. row_of c ≡ common (row_of self) low high) }
     {
-        Cell::from_row(Row {
-            low: self.low.max(low),
-            high: self.high.min(high),
-        })
+        Cell::try_from(Row::from(self).common(low, high)).ok()
     }
 }
