@@ -1,11 +1,11 @@
 -- When a call on a board in memory is granted, and the state that it leaves.
-use Rattle.std.proofs.Common.{◌≡◌, ℕ, ◌<◌, ◌≤◌, cond, ltb, length, Some, None, vec_items, ◌∙◌, arith}
+use Rattle.std.proofs.Common.{◌≡◌, ℕ, ◌<◌, ◌≤◌, cond, ltb, length, get_or, ◌≢◌, Ok, vec_items, ◌∙◌, arith}
 use Rattle.std.proofs.lemmas.List.{length-take-le}
 use Rattle.std.proofs.lemmas.Bool.{cond-true, cond-false, lt-ltb, le-ltb}
 use Rattle.board.specs.declared.board.Board.{Board}
 use Rattle.board.specs.Calls.{is_open, older, at, refusal, opening, keep}
-use Rattle.board.specs.Records.{place_of}
-use Rattle.board.specs.Held.{state}
+use Rattle.board.specs.Records.{none_trial}
+use Rattle.board.specs.Held.{state, Places}
 use Rattle.board.proofs.Slots.{length_trials, Found, none_found, some_found}
 
 module _ (b : Board) where
@@ -24,9 +24,9 @@ module _ (b : Board) where
   pub open_spent : b.control.depth < 16 → 4294967295 ≤ b.control.given → refusal (state b) opening ≡ 13
   open_spent h g = open_asks h ∙ cond-false _ _ _ (le-ltb b.control.given 4294967295 g)
 
-  pub gone : (k : ℕ) → None ≡ place_of b.control.trials k b.control.depth → refusal (state b) (keep k) ≡ 14
-  gone k e = cond-false _ _ _ (none_found b.control.cells b.control.trials (vec_items b.saved) k b.control.depth e)
+  pub gone : (k : ℕ) → ((i : ℕ) → i < b.control.depth → (get_or b.control.trials i none_trial).serial ≢ k) → refusal (state b) (keep k) ≡ 14
+  gone k h = cond-false _ _ _ (none_found b.control.cells b.control.trials (vec_items b.saved) k b.control.depth h)
 
-  pub found : (k p : ℕ) → Some p ≡ place_of b.control.trials k b.control.depth
+  pub found : (k p : ℕ) → Places b.control k (Ok p)
       → let os = (state b).trials in Found b.control.cells b.control.trials (vec_items b.saved) p b.control.depth (is_open k os) (older k os) (at k os)
-  found k p e = some_found b.control.cells b.control.trials (vec_items b.saved) k p b.control.depth e
+  found k p (below, is, newest) = some_found b.control.cells b.control.trials (vec_items b.saved) k p b.control.depth below is newest

@@ -1,5 +1,5 @@
 -- What settling a board's rows in memory does to its state.
-use Rattle.std.proofs.Common.{◌≡◌, ℕ, true, false, cond, List, length, take, drop, vec_items, vec_len, Vec, sym, refl, subst}
+use Rattle.std.proofs.Common.{◌≡◌, ℕ, true, false, cond, List, length, take, drop, vec_items, vec_len, Vec, sym, subst}
 use Rattle.std.specs.Vec.{with_items}
 use Rattle.std.specs.declared.alloc.Global.{Global}
 use Rattle.std.proofs.lemmas.List.{with_items_is}
@@ -9,7 +9,7 @@ use Rattle.bounds.specs.Laws.{Meaning, FiveLaws}
 use Rattle.board.specs.declared.control.Control.{Control}
 use Rattle.settling.specs.declared.settled.Settled.{Settled}
 use Rattle.settling.specs.declared.settled.Settled.TheVariants as settle
-use Rattle.board.specs.Calls.{board, settled, emptied, Does, Empties}
+use Rattle.board.specs.Calls.{board}
 use Rattle.board.specs.Held.{state_of}
 use Rattle.settling.specs.Settles.{Settles}
 use Rattle.board.proofs.Widest.{WidestIn, widest_settled, widest_emptied}
@@ -24,20 +24,6 @@ pub refilled_front : (m : Meaning) (n : ℕ) (v : Vec Row Global) (xs ws : List 
 refilled_front m n v xs ws r e l front past = rw (with_items_is v ws l, ← e) (front, past)
 
 module _ (m : Meaning) (k : Control) (a b saved : List Row) (n : ℕ) (full : k.void ≡ false) where
-  pub does_settled : Settles m (take k.cells a) (take k.cells b) (settle.Settled n)
-      → Does m (state_of k a saved) (settled n) (state_of k b saved)
-  does_settled (applied, still, _, _) = (
-    full,
-    applied,
-    still,
-    λ j. record { is_void = full j; rows = (state_of k b saved).rows; given = k.given; trials = (state_of k b saved).trials },
-  )
-
-  pub does_emptied : Settles m (take k.cells a) (take k.cells b) (settle.Void n)
-      → Does m (state_of k a saved) (emptied n) (state_of (voided k) b saved)
-  does_emptied ((i, r, e, applied, low, voids), _, _) =
-      subst (λ v. Empties m (state_of k a saved) n (state_of (voided k) b saved) v) (sym full) (i, r, e, applied, low, voids, refl)
-
   module _ (laws : FiveLaws m) (ok : sound (take k.cells a) ≡ true) where
     pub leaves_settled : Settles m (take k.cells a) (take k.cells b) (settle.Settled n)
         → WidestIn m (state_of k a saved) (board (state_of k b saved))

@@ -1,13 +1,14 @@
 -- The trials of the trial memory.
-use Rattle.std.proofs.Common.{◌≡◌, ℕ, zero, suc, ◌+◌, ◌*◌, ◌<◌, ◌≤◌, Bool, true, false, cond, eqb, ◌≢◌, List, ◌∷◌, length, get_or, take, drop, set, Some, None, vec_items, vec_len, Vec, sym, refl, ap, ◌∙◌, subst, mul-le-mul_right, suc-mul, add-mul, one-mul, zero-add, add-one, arith}
+use Rattle.std.proofs.Common.{◌≡◌, ℕ, zero, suc, ◌+◌, ◌*◌, ◌<◌, ◌≤◌, Bool, true, false, ◌≢◌, List, ◌∷◌, length, get_or, take, drop, set, vec_items, vec_len, Vec, sym, refl, ap, ◌∙◌, subst, ⊎_elim, mul-le-mul_right, suc-mul, add-mul, one-mul, zero-add, add-one, arith}
 use Rattle.std.specs.Vec.{with_items}
 use Rattle.std.specs.declared.alloc.Global.{Global}
 use Rattle.std.proofs.lemmas.List.{length-take-le, length-drop, take-take, drop-take, get_or-set_same, get_or-set_other, with_items_is}
+use Rattle.std.proofs.lemmas.Bool.{cases_lt, cond-true, cond-false, eq-eqb, ne_eqb}
 use Rattle.bounds.specs.declared.row.Row.{Row}
 use Rattle.board.specs.declared.control.Trial.{Trial}
 use Rattle.board.specs.Calls as calls
 use Rattle.board.specs.Calls.{is_open, older, at}
-use Rattle.board.specs.Records.{none_trial, place_of}
+use Rattle.board.specs.Records.{none_trial}
 use Rattle.board.specs.Held.{slot, trial_at, trials_of, Pasted}
 
 module _ (n : ℕ) where
@@ -48,11 +49,9 @@ module _ (n : ℕ) where
       let rest = same_trials ts us a b d (λ i k. r i (omega arith)) front in
       cc
 
-  pub none_found : (ts : List Trial) (a : List Row) (k d : ℕ) → None ≡ place_of ts k d → is_open k (trials_of n ts a d) ≡ false
-  none_found ts a k zero e = refl
-  none_found ts a k (suc d) e = (elim (eqb (get_or ts d none_trial).serial k)
-      as (λ v. None ≡ cond v (Some d) (place_of ts k d) → cond v true (is_open k (trials_of n ts a d)) ≡ false)
-      [ true ↦ λ f. (let z : ◌≡◌ {A = ℕ} 0 1 = cc in absurd (omega arith)) | false ↦ λ f. none_found ts a k d f ]) e
+  pub none_found : (ts : List Trial) (a : List Row) (k d : ℕ) → ((i : ℕ) → i < d → (get_or ts i none_trial).serial ≢ k) → is_open k (trials_of n ts a d) ≡ false
+  none_found ts a k zero h = refl
+  none_found ts a k (suc d) h = cond-false _ _ _ (ne_eqb _ _ (h d (omega arith))) ∙ none_found ts a k d (λ i l. h i (omega arith))
 
   -- the trial at the place p is the newest one found, of d
   pub record Found (ts : List Trial) (a : List Row) (p d : ℕ) (one : Bool) (rest : List calls.Trial) (trial : calls.Trial → calls.Trial) : Type 0 where
@@ -61,27 +60,23 @@ module _ (n : ℕ) where
     pub rest_is : rest ≡ trials_of n ts a p
     pub trial_is : (x : calls.Trial) → trial x ≡ trial_at n ts a p
 
-  pub some_found : (ts : List Trial) (a : List Row) (k p d : ℕ) → Some p ≡ place_of ts k d
+  pub some_found : (ts : List Trial) (a : List Row) (k p d : ℕ) → p < d → (get_or ts p none_trial).serial ≡ k
+      → ((i : ℕ) → p < i → i < d → (get_or ts i none_trial).serial ≢ k)
       → let os = trials_of n ts a d in Found ts a p d (is_open k os) (older k os) (at k os)
-  some_found ts a k p zero e = let z : ◌≡◌ {A = ℕ} 0 1 = cc in absurd (omega arith)
-  some_found ts a k p (suc d) e =
-      let os = trials_of n ts a d in
-      (elim (eqb (get_or ts d none_trial).serial k)
-      as (λ v. Some p ≡ cond v (Some d) (place_of ts k d)
-      → Found ts a p (suc d) (cond v true (is_open k os)) (cond v os (older k os)) (λ x. cond v (trial_at n ts a d) (at k os x))) [
-        | true ↦ λ f. let q : d ≡ p = cc in record {
-          below = omega arith;
-          is_open_is = refl;
-          rest_is = ap (trials_of n ts a) q;
-          trial_is = λ x. ap (trial_at n ts a) q;
-        }
-        | false ↦ λ f. let r = some_found ts a k p d f in record {
-          below = omega arith;
-          is_open_is = r.is_open_is;
-          rest_is = r.rest_is;
-          trial_is = r.trial_is;
-        }
-      ]) e
+  some_found ts a k p zero l e o = absurd (omega arith)
+  some_found ts a k p (suc d) l e o = ⊎_elim
+      (λ (h : p < d). let r = some_found ts a k p d h e (λ i m q. o i m (omega arith)) in let c = ne_eqb _ _ (o d h (omega arith)) in record {
+        below = l;
+        is_open_is = cond-false _ _ _ c ∙ r.is_open_is;
+        rest_is = cond-false _ _ _ c ∙ r.rest_is;
+        trial_is = λ x. cond-false _ _ _ c ∙ r.trial_is x;
+      })
+      (λ (h : d ≤ p). let q : d ≡ p = omega arith in let c = eq-eqb _ _ (ap (λ i. (get_or ts i none_trial).serial) q ∙ e) in record {
+        below = l;
+        is_open_is = cond-true _ _ _ c;
+        rest_is = cond-true _ _ _ c ∙ ap (trials_of n ts a) q;
+        trial_is = λ x. cond-true _ _ _ c ∙ ap (trial_at n ts a) q;
+      }) (cases_lt p d)
 
   -- what opening adds to the trials
   pub one_more : (ts : List Trial) (t : Trial) (rows a b : List Row) (d : ℕ) → d < length ts → length rows ≡ n → Pasted (d * n) rows a b

@@ -1,5 +1,5 @@
 -- The state that a board in memory holds, and the event that an answer is.
-use Rattle.std.specs.Prelude.{◌≡◌, ℕ, zero, suc, ◌+◌, ◌*◌, ◌<◌, List, [], ◌∷◌, length, take, drop, Some, None, Ok, Err, vec_items, vec_len, Result, slice_index_or}
+use Rattle.std.specs.Prelude.{◌≡◌, ℕ, zero, suc, ◌+◌, ◌*◌, ◌<◌, ◌≢◌, List, [], ◌∷◌, length, take, drop, Ok, Err, vec_items, vec_len, Result, slice_index_or}
 use Rattle.bounds.specs.declared.row.Row.{Row}
 use Rattle.bounds.specs.declared.cell.Cell.{Cell}
 use Rattle.board.specs.declared.control.Trial.{Trial}
@@ -10,10 +10,10 @@ use Rattle.board.specs.declared.refusal.Refusal.TheVariants as refusal
 use Rattle.board.specs.declared.board.trials.Slip.{Slip}
 use Rattle.settling.specs.declared.settled.Settled.{Settled}
 use Rattle.settling.specs.declared.settled.Settled.TheVariants as settle
-use Rattle.board.specs.Records.{none_trial, place_of}
+use Rattle.board.specs.Records.{none_trial}
 use Rattle.bounds.specs.Laws.{Meaning}
 use Rattle.board.specs.Calls as calls
-use Rattle.board.specs.Calls.{State, Event, refused, tightened, opened, kept, dropped, asked, settled, emptied, Does}
+use Rattle.board.specs.Calls.{State, Call, Event, refused, tightened, opened, kept, dropped, asked, settled, emptied, Does}
 
 abbrev pub number : Refusal → ℕ
 number refusal.Cell = 9
@@ -48,25 +48,25 @@ state_of k rows saved = record {
 abbrev pub state : Board → State
 state b = state_of b.control (vec_items b.rows) (vec_items b.saved)
 
+-- the call, granted with what was made of the value, or refused
+abbrev pub event_of : {A : Type 0} → Call → (A → Event) → Result A Refusal → Event
+event_of call granted (Ok x) = granted x
+event_of call granted (Err e) = refused call (number e)
+
 abbrev pub event_of_ask : ℕ → Result Cell Refusal → Event
-event_of_ask c (Ok x) = asked c x.low x.high
-event_of_ask c (Err e) = refused (calls.ask c) (number e)
+event_of_ask c = event_of (calls.ask c) (λ x. asked c x.low x.high)
 
 abbrev pub event_of_tighten : ℕ → ℕ → ℕ → Result (Unit {0}) Refusal → Event
-event_of_tighten c l h (Ok x) = tightened c l h
-event_of_tighten c l h (Err e) = refused (calls.tighten c l h) (number e)
+event_of_tighten c l h = event_of (calls.tighten c l h) (λ _. tightened c l h)
 
 abbrev pub event_of_open : Result Slip Refusal → Event
-event_of_open (Ok s) = opened s.serial
-event_of_open (Err e) = refused calls.opening (number e)
+event_of_open = event_of calls.opening (λ s. opened s.serial)
 
 abbrev pub event_of_keep : Slip → Result (Unit {0}) Refusal → Event
-event_of_keep s (Ok x) = kept s.serial
-event_of_keep s (Err e) = refused (calls.keep s.serial) (number e)
+event_of_keep s = event_of (calls.keep s.serial) (λ _. kept s.serial)
 
 abbrev pub event_of_drop : Slip → Result (Unit {0}) Refusal → Event
-event_of_drop s (Ok x) = dropped s.serial
-event_of_drop s (Err e) = refused (calls.drop s.serial) (number e)
+event_of_drop s = event_of (calls.drop s.serial) (λ _. dropped s.serial)
 
 abbrev pub event_of_settle : Settled → Event
 event_of_settle (settle.Settled n) = settled n
@@ -83,6 +83,11 @@ pub record Frame (b c : Board) : Type 0 where
   pub rows_room : vec_len c.rows ≡ vec_len b.rows
   pub saved_room : vec_len c.saved ≡ vec_len b.saved
 
+-- of both memories only the board's rows may change
+pub record OnlyRows (b c : Board) : Type 0 where
+  pub frame : Frame b c
+  pub saved : vec_items c.saved ≡ vec_items b.saved
+
 -- the trial memory outside the place d stays
 pub record Outside (b c : Board) (d : ℕ) : Type 0 where
   pub before : take (d * b.control.cells) (vec_items c.saved) ≡ take (d * b.control.cells) (vec_items b.saved)
@@ -96,5 +101,6 @@ pub record Pasted (place : ℕ) (rows xs ys : List Row) : Type 0 where
 
 -- the place of the newest open trial of the serial k, or that it is gone
 abbrev pub Places : Control → ℕ → Result ℕ Refusal → Type 0
-Places c k (Ok p) = (Some p ≡ place_of c.trials k c.depth) × (p < c.depth)
-Places c k (Err e) = (e ≡ refusal.Gone) × (None ≡ place_of c.trials k c.depth)
+Places c k (Ok p) =
+    (p < c.depth) × ((slice_index_or c.trials p none_trial).serial ≡ k) × ((i : ℕ) → p < i → i < c.depth → (slice_index_or c.trials i none_trial).serial ≢ k)
+Places c k (Err e) = (e ≡ refusal.Gone) × ((i : ℕ) → i < c.depth → (slice_index_or c.trials i none_trial).serial ≢ k)

@@ -16,6 +16,16 @@ abbrev pub unfit : ℕ → List Row → ℕ → ℕ → Option Unfit
 unfit n rows room trial_room =
     cond (nat_le 1 n && nat_le n 1024) (cond (nat_le n room && nat_le (16 * n) trial_room) (cond (sound rows) None (Some Unsound)) (Some Room)) (Some Size)
 
+-- the same of the sizes alone
+abbrev pub roomless : ℕ → ℕ → ℕ → Option Unfit
+roomless n room trial_room =
+    cond (nat_le 1 n && nat_le n 1024) (cond (nat_le n room && nat_le (16 * n) trial_room) None (Some Room)) (Some Size)
+
+-- an answer that gives the reason, if there is one
+abbrev pub Tells : Option Unfit → Result (Unit {0}) Unfit → Type 0
+Tells reason (Ok x) = reason ≡ None
+Tells reason (Err why) = reason ≡ Some why
+
 abbrev pub Makes : Vec Row Global → Vec Row Global → ℕ → Result Board Refused → Type 0
 Makes rows saved n (Ok b) =
     (unfit n (take n (vec_items rows)) (vec_len rows) (vec_len saved) ≡ None) × (b.rows ≡ rows) × (b.saved ≡ saved) × (state b ≡ as_read (take n (vec_items rows)))

@@ -6,6 +6,7 @@ ghost use Rattle.board.specs.Records.{none_trial};
 use crate::control::Control;
 use bounds::row::Row;
 
+// Kept: a Model whose value is the state could not name the memory past it, of which the calls' contracts speak too.
 #[derive(Drop)]
 pub struct Board {
     rows: Vec<Row>,

@@ -1,5 +1,10 @@
 // Memory that makes no board, given back.
+ghost use Rattle.board.specs.Makes.{roomless, Tells};
+
+use crate::control::MOST_TRIALS;
 use bounds::row::Row;
+
+pub const MOST_CELLS: usize = 1024;
 
 #[derive(Clone, Copy, PartialEq, Eq, Debug)]
 pub enum Unfit {
@@ -16,4 +21,17 @@ pub struct Refused {
     pub why: Unfit,
     pub rows: Vec<Row>,
     pub saved: Vec<Row>,
+}
+
+// Whether memory for so many rows, and for so many that trials save, has room for a board of so many cells.
+pub fn room_for(cells: usize, rows: usize, saved: usize) -> Result<(), Unfit>
+    ensures { Tells (roomless cells rows saved) result }
+{
+    if !(1..=MOST_CELLS).contains(&cells) {
+        return Err(Unfit::Size);
+    }
+    if cells > rows || MOST_TRIALS * cells > saved {
+        return Err(Unfit::Room);
+    }
+    Ok(())
 }

@@ -11,13 +11,9 @@ pub fn leaves_a_count(board: &mut Board, cell: usize, low: u16, high: u16) -> Re
     ensures { LeftAsFound board.old board.new }
 {
     let slip = board.open()?;
-    if let Err(refusal) = board.tighten(cell, low, high) {
-        let _ = board.drop(slip);
-        return Err(refusal);
-    }
-    let left = !board.is_void();
+    let left = board.tighten(cell, low, high).map(|()| !board.is_void());
     let _ = board.drop(slip);
-    Ok(left)
+    left
 }
 
 // Whether the board grants each end of the range as the cell's only count, each tried and taken back.
@@ -29,11 +25,16 @@ pub fn grants_both_ends(
 ) -> Result<bool, Refusal>
     ensures { LeftAsFound board.old board.new }
 {
+    let at_low = grants(board, cell, low)?;
+    let at_high = grants(board, cell, high)?;
+    Ok(at_low & at_high)
+}
+
+fn grants(board: &mut Board, cell: usize, count: u16) -> Result<bool, Refusal>
+    ensures { LeftAsFound board.old board.new }
+{
     let slip = board.open()?;
-    let at_low = board.tighten(cell, low, low);
+    let granted = board.tighten(cell, count, count).is_ok();
     let _ = board.drop(slip);
-    let again = board.open()?;
-    let at_high = board.tighten(cell, high, high);
-    let _ = board.drop(again);
-    Ok(at_low.is_ok() & at_high.is_ok())
+    Ok(granted)
 }

@@ -1,1 +1,2 @@
 pub mod Narrows
+pub mod Placed

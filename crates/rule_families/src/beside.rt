@@ -1,17 +1,39 @@
 // Two families as one: the first's rules, then the second's, any past 4,096 left out.
+ghost use Rattle.std.specs.Prelude.{◌≡◌};
 ghost use Rattle.bounds.specs.Beside.{beside};
 ghost use Rattle.bounds.proofs.Beside.{beside_lawful};
+ghost use Rattle.rule_families.specs.Placed.{placed};
 
 use crate::change::Change;
-use crate::family::Family;
+use crate::family::{Family, MOST_RULES};
 use bounds::row::Row;
 
-const MOST_RULES: usize = 4096;
-
-#[derive(Clone, Copy)]
+#[derive(Clone, Copy, PartialEq, Eq, Debug)]
 pub struct Beside<A, B> {
     pub first: A,
     pub second: B,
+}
+
+// The family that a rule is of, and its number there.
+// Kept: the two families differ in type, so that neither a closure nor a dyn value says more plainly which is asked.
+enum Place {
+    First(usize),
+    Second(usize),
+}
+
+impl<A: Family, B: Family> Beside<A, B> {
+    fn place(&self, rule: usize) -> Option<Place>
+        ensures { (beside (A.meaning self.now.first) (B.meaning self.now.second)).rule rule ≡ placed (A.meaning self.now.first) (B.meaning self.now.second) result }
+    {
+        let first = self.first.size();
+        if rule < first {
+            Some(Place::First(rule))
+        } else if rule < MOST_RULES {
+            Some(Place::Second(rule - first))
+        } else {
+            None
+        }
+    }
 }
 
 impl<A: Family, B: Family> Family for Beside<A, B> {
@@ -24,24 +46,18 @@ impl<A: Family, B: Family> Family for Beside<A, B> {
     }
 
     fn touches(&self, rule: usize, cells: usize, cell: usize) -> bool {
-        let first = self.first.size();
-        if rule < first {
-            self.first.touches(rule, cells, cell)
-        } else if rule < MOST_RULES {
-            self.second.touches(rule - first, cells, cell)
-        } else {
-            false
+        match self.place(rule) {
+            Some(Place::First(own)) => self.first.touches(own, cells, cell),
+            Some(Place::Second(own)) => self.second.touches(own, cells, cell),
+            None => false,
         }
     }
 
     fn narrow(&self, rule: usize, rows: &mut [Row]) -> Change {
-        let first = self.first.size();
-        if rule < first {
-            self.first.narrow(rule, rows)
-        } else if rule < MOST_RULES {
-            self.second.narrow(rule - first, rows)
-        } else {
-            Change::Quiet
+        match self.place(rule) {
+            Some(Place::First(own)) => self.first.narrow(own, rows),
+            Some(Place::Second(own)) => self.second.narrow(own, rows),
+            None => Change::Quiet,
         }
     }
 }

@@ -7,6 +7,9 @@ ghost use Rattle.rule_families.specs.Narrows.{Narrows};
 use crate::change::Change;
 use bounds::row::Row;
 
+// A lawful family has no more rules.
+pub const MOST_RULES: usize = 4096;
+
 // A family of rules (constraints), known by its meaning alone; each shows the five laws.
 pub trait Family {
     ghost meaning: { Self → Meaning };
@@ -21,6 +24,7 @@ pub trait Family {
         ensures { result ≡ ((meaning self.now).rule rule).touches cells cell };
 
     // The rows are narrowed in place; where the rule has no filling left they stay as they were.
+    // Kept: memory holds plain rows, so that they are sound is asked here and of all that hands them on, and no type says it.
     fn narrow(&self, rule: usize, rows: &mut [Row]) -> Change
         requires { sound rows.old ≡ true }
         ensures { Narrows ((meaning self.now).rule rule).narrowed rows.old rows.new result };

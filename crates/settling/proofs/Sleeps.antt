@@ -1,5 +1,5 @@
 -- A quiet rule stays quiet where another narrows cells that it does not touch.
-use Rattle.std.proofs.Common.{◌≡◌, ℕ, zero, suc, true, List, length, get_or, replicate, sym, refl, ap, ◌∙◌, subst, inl, inr, arith}
+use Rattle.std.proofs.Common.{◌≡◌, ℕ, true, List, length, sym, refl, ap, ◌∙◌, subst, inl, inr, arith}
 use Rattle.std.proofs.lemmas.Bool.{cases_Bool}
 use Rattle.bounds.specs.declared.row.Row.{Row}
 use Rattle.bounds.specs.Boards.{Board, void, cells, sound, Within}
@@ -7,11 +7,6 @@ use Rattle.bounds.specs.Laws.{Meaning, FiveLaws, Touched, Alike}
 use Rattle.settling.specs.Asleep.{Apart}
 use Rattle.bounds.proofs.Rows.{inside_length}
 use Rattle.bounds.proofs.Places.{same_rows}
-
-pub all_pending : (n q : ℕ) → get_or (replicate n true) q true ≡ true
-all_pending zero q = refl
-all_pending (suc n) zero = refl
-all_pending (suc n) (suc q) = all_pending n q
 
 module _ (m : Meaning) (laws : FiveLaws m) (a b : List Row) (r q : ℕ) (s : sound a ≡ true) (t : sound b ≡ true) (e : length a ≡ length b)
     (narrows : (m.rule r).narrowed a ≡ cells b) (apart : Apart m (length b) (length b) r q) where

@@ -7,11 +7,12 @@ ghost use Rattle.settling.specs.Settles.{Settles};
 use crate::settled::Settled;
 use bounds::row::Row;
 use rule_families::change::Change;
-use rule_families::family::Family;
-
-const MOST_RULES: usize = 4096;
+use rule_families::family::{Family, MOST_RULES};
 
 // A scan over the pending rules, from the lowest, that starts again whenever one narrows. A rule that is not pending is quiet.
+// Kept: the scan changes which rules are pending and is left from inside, which an iterator over them cannot be.
+// Kept: settling takes no heap, so the pending rules are a table with room for all, of which a family has so many.
+// Kept: memory holds plain rows, whose type cannot say that they are those of a board, 1,024 at most.
 pub fn settle_rows<F: Family>(family: &F, rows: &mut [Row]) -> Settled
     requires sound { sound rows.old ≡ true }
     requires few { length rows.old ≤ 1024 }
@@ -40,6 +41,7 @@ pub fn settle_rows<F: Family>(family: &F, rows: &mut [Row]) -> Settled
 }
 
 // One more than the counts by which the highs exceed the lows.
+// Kept: as `.map(..).sum::<u32>() + 1` nothing bounds the sum below the type's last number, so that the 1 may overflow it.
 fn width(rows: &[Row]) -> u32
     requires { length rows.now ≤ 1024 }
     ensures { result ≡ spread rows.now }
@@ -52,6 +54,7 @@ fn width(rows: &[Row]) -> u32
 }
 
 // Makes every rule pending that touches a cell which the rule touches, itself among them.
+// Kept: a `for` over `(0..cells).filter(..)` that asks the family gets an ill-typed proof from the checker.
 fn wake<F: Family>(family: &F, rule: usize, cells: usize, pending: &mut [bool; MOST_RULES])
     ensures { Woken (F.meaning family.now) cells rule pending.old pending.new }
 {
@@ -65,9 +68,9 @@ fn wake<F: Family>(family: &F, rule: usize, cells: usize, pending: &mut [bool; M
 fn wake_at<F: Family>(family: &F, cells: usize, cell: usize, pending: &mut [bool; MOST_RULES])
     ensures { WokenAt (F.meaning family.now) cells cell pending.old pending.new }
 {
-    for rule in 0..family.size() {
+    for (rule, waits) in pending[..family.size()].iter_mut().enumerate() {
         if family.touches(rule, cells, cell) {
-            pending[rule] = true;
+            *waits = true;
         }
     }
 }

@@ -13,7 +13,7 @@ impl Board {
         requires { cell < length (state self.now).rows }
         ensures { row_of result ≡ slice_index_or (state self.now).rows cell none_row }
     {
-        Cell::from_row(self.rows()[cell]).unwrap()
+        Cell::try_from(self.rows()[cell]).unwrap()
     }
 
     pub fn ask(&self, cell: usize) -> Result<Cell, Refusal>

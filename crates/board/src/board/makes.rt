@@ -1,47 +1,32 @@
 // What makes a board of memory, and gives the memory back.
 ghost use Rattle.std.specs.Prelude.{◌≡◌, length, take};
-ghost use Rattle.bounds.specs.Boards.{sound};
-ghost use Rattle.board.specs.Makes.{unfit, Makes};
+ghost use Rattle.board.specs.Makes.{unfit, Makes, Tells};
 
 use super::Board;
-use crate::control::{Control, MOST_TRIALS};
-use crate::unfit::{Refused, Unfit};
-use bounds::row::Row;
+use crate::control::Control;
+use crate::unfit::{Refused, Unfit, room_for};
+use bounds::row::{Row, all_sound};
 
-const MOST_CELLS: usize = 1024;
-
-pub fn all_sound(rows: &[Row]) -> bool
-    ensures { result ≡ sound rows.now }
+// Whether the first rows and the memory make a board of so many cells.
+// Kept: what it shares with the fit of a job is `room_for`; what is left is how each looks for a row with no count.
+fn fit(rows: &[Row], saved: &[Row], cells: usize) -> Result<(), Unfit>
+    ensures { Tells (unfit cells (take cells rows.now) (length rows.now) (length saved.now)) result }
 {
-    for row in rows {
-        if row.low > row.high {
-            return false;
-        }
+    room_for(cells, rows.len(), saved.len())?;
+    if all_sound(&rows[..cells]) {
+        Ok(())
+    } else {
+        Err(Unfit::Unsound)
     }
-    true
-}
-
-fn fault(rows: &[Row], saved: &[Row], cells: usize) -> Option<Unfit>
-    ensures { result ≡ unfit cells (take cells rows.now) (length rows.now) (length saved.now) }
-{
-    if cells < 1 || cells > MOST_CELLS {
-        return Some(Unfit::Size);
-    }
-    if cells > rows.len() || MOST_TRIALS * cells > saved.len() {
-        return Some(Unfit::Room);
-    }
-    if !all_sound(&rows[..cells]) {
-        return Some(Unfit::Unsound);
-    }
-    None
 }
 
 impl Board {
     // A board of the first rows of the board memory, with trial memory for sixteen times as many.
+    // Kept: the two memories are handed in and given back by name; in a struct each of the calls would name the struct and then the two.
     pub fn over(rows: Vec<Row>, saved: Vec<Row>, cells: usize) -> Result<Board, Refused>
         ensures { Makes rows saved cells result }
     {
-        if let Some(why) = fault(&rows, &saved, cells) {
+        if let Err(why) = fit(&rows, &saved, cells) {
             return Err(Refused { why, rows, saved });
         }
         let control = Control::new(cells);

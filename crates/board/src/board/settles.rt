@@ -2,7 +2,7 @@
 ghost use Rattle.std.specs.Prelude.{◌≡◌, ◌<◌, ◌≤◌, true, length, take, drop};
 ghost use Rattle.bounds.specs.Boards.{sound, Lies};
 ghost use Rattle.board.specs.Calls.{board, Does};
-ghost use Rattle.board.specs.Held.{state, event_of_settle, Frame};
+ghost use Rattle.board.specs.Held.{state, event_of_settle, OnlyRows};
 ghost use Rattle.settling.specs.Plans.{Widest};
 ghost use Rattle.settling.specs.Settles.{Settles};
 
@@ -17,8 +17,7 @@ impl Board {
     pub fn settle<F: Family>(&mut self, family: &F) -> Settled
         ensures does { Does (F.meaning family.now) (state self.old) (event_of_settle result) (state self.new) }
         ensures widest { Widest (F.meaning family.now) (λ p. Lies p (board (state self.old))) (board (state self.new)) }
-        ensures frame { Frame self.old self.new }
-        ensures saved { self.new.saved.items ≡ self.old.saved.items }
+        ensures memory { OnlyRows self.old self.new }
     {
         if self.control.void {
             return Settled::Void(0);
@@ -38,6 +37,7 @@ fn settle_front<F: Family>(family: &F, rows: &mut [Row], cells: usize) -> Settle
     requires room { cells ≤ length rows.old }
     ensures front { Settles (F.meaning family.now) (take cells rows.old) (take cells rows.new) result }
     ensures past { drop cells rows.new ≡ drop cells rows.old }
+    ensures sound { sound (take cells rows.new) ≡ true }
 {
     settle_rows(family, &mut rows[..cells])
 }

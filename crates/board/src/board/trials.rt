@@ -1,6 +1,6 @@
 // What opens a trial and what closes it.
 ghost use Rattle.std.specs.Prelude.{◌≡◌, ◌+◌, ◌*◌, ◌≤◌, false, length, is_ok};
-ghost use Rattle.board.specs.Held.{event_of_open, event_of_keep, event_of_drop, Did, Frame, Outside, Pasted, Places, slot};
+ghost use Rattle.board.specs.Held.{event_of_open, event_of_keep, event_of_drop, Did, Frame, OnlyRows, Outside, Pasted, Places, slot};
 
 use super::Board;
 use crate::control::MOST_TRIALS;
@@ -8,6 +8,7 @@ use crate::refusal::Refusal;
 use bounds::row::Row;
 
 // What opening a trial gives out, to be spent on keeping or dropping it.
+// Kept: by `From` an `.into()` would make or spend a slip without a word, where these two say which serial is meant.
 pub struct Slip {
     serial: u32,
 }
@@ -34,17 +35,16 @@ fn paste(rows: &[Row], to: &mut [Row], place: usize)
     requires { place + length rows.now ≤ length to.old }
     ensures { Pasted place rows.now to.old to.new }
 {
-    let end = place + rows.len();
-    to[place..end].copy_from_slice(rows);
+    to[place..place + rows.len()].copy_from_slice(rows);
 }
 
 // The rows of the trial at the place, `cells` to a trial.
+// Kept: the trial memory is one piece that the caller lends, so a trial is a part of it by its number.
 fn saved_rows(saved: &[Row], cells: usize, place: usize) -> &[Row]
     requires { place * cells + cells ≤ length saved.now }
     ensures { result.now ≡ slot cells place saved.now }
 {
-    let start = place * cells;
-    &saved[start..start + cells]
+    &saved[place * cells..][..cells]
 }
 
 impl Board {
@@ -53,12 +53,10 @@ impl Board {
         ensures { Places self.now.control slip.serial result }
     {
         let Slip { serial } = slip;
-        for d in (0..self.control.depth).rev() {
-            if self.control.trials[d].serial == serial {
-                return Ok(d);
-            }
-        }
-        Err(Refusal::Gone)
+        self.control.trials[..self.control.depth]
+            .iter()
+            .rposition(|trial| trial.serial == serial)
+            .ok_or(Refusal::Gone)
     }
 
     pub fn open(&mut self) -> Result<Slip, Refusal>
@@ -72,12 +70,9 @@ impl Board {
         if depth >= MOST_TRIALS {
             return Err(Refusal::Depth);
         }
-        if self.control.given == u32::MAX {
-            return Err(Refusal::Serial);
-        }
+        let serial = self.control.given.checked_add(1).ok_or(Refusal::Serial)?;
         let cells = self.control.cells;
         paste(&self.rows[..cells], &mut self.saved, depth * cells);
-        let serial = self.control.given + 1;
         let void = self.control.void;
         let trial = &mut self.control.trials[depth];
         trial.serial = serial;
@@ -89,8 +84,7 @@ impl Board {
 
     pub fn keep(&mut self, slip: Slip) -> Result<(), Refusal>
         ensures does { Did self.old (event_of_keep slip result) self.new }
-        ensures frame { Frame self.old self.new }
-        ensures saved { self.new.saved.items ≡ self.old.saved.items }
+        ensures memory { OnlyRows self.old self.new }
     {
         self.control.depth = self.place(slip)?;
         Ok(())
@@ -98,8 +92,7 @@ impl Board {
 
     pub fn drop(&mut self, slip: Slip) -> Result<(), Refusal>
         ensures does { Did self.old (event_of_drop slip result) self.new }
-        ensures frame { Frame self.old self.new }
-        ensures saved { self.new.saved.items ≡ self.old.saved.items }
+        ensures memory { OnlyRows self.old self.new }
     {
         let place = self.place(slip)?;
         let cells = self.control.cells;

@@ -4,12 +4,7 @@ use Rattle.callers.proofs.leaves_a_count.Goals as goal
 pub returns-in_err-slip : goal.returns-in_err-slip
 returns-in_err-slip c = stayed _ _ (c.in_err-slip.ensures.does none).2
 
-pub returns-in-Err : goal.returns-in-Err
-returns-in-Err c =
-    taken_back c.args.board.now c.open.new.self c.tighten.new.self c.drop.new.self c.in_ok-slip.slip _ _ _ c.tighten.result c.drop.result
-    (c.in_ok-slip.ensures.does none) (c.tighten.ensures.does none) (c.drop.ensures.does none)
-
 pub returns : goal.returns
 returns c =
-    taken_back c.args.board.now c.open.new.self c.tighten.new.self c.drop-2.new.self c.in_ok-slip.slip _ _ _ c.tighten.result c.drop-2.result
-    (c.in_ok-slip.ensures.does none) (c.tighten.ensures.does none) (c.drop-2.ensures.does none)
+    taken_back c.args.board.now c.open.new.self c.tighten.new.self c.drop.new.self c.in_ok-slip.slip _ _ _ c.tighten.result c.drop.result
+    (c.in_ok-slip.ensures.does none) (c.tighten.ensures.does none) (c.drop.ensures.does none)

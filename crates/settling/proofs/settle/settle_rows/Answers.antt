@@ -1,6 +1,6 @@
-use Rattle.std.proofs.Common.{◌≡◌, ℕ, ◌+◌, true, false, List, sym, refl, ap, ◌∙◌, subst, arith, below_more}
-use Rattle.std.proofs.lemmas.List.{get_or_default}
+use Rattle.std.proofs.Common.{◌≡◌, ℕ, ◌+◌, true, List, sym, refl, ap, ◌∙◌, subst, arith}
 use Rattle.std.proofs.lemmas.Bool.{both_ways}
+use Rattle.std.proofs.lemmas.List.{get_or-replicate}
 use Rattle.bounds.specs.declared.row.Row.{Row}
 use Rattle.bounds.specs.Boards.{void, cells, sound, Real}
 use Rattle.bounds.proofs.Rows.{spread_pos}
@@ -9,22 +9,11 @@ use Rattle.settling.specs.Asleep.{Apart}
 use Rattle.settling.specs.Plans.{Applies, stay, more, Lowest, Still}
 use Rattle.settling.specs.Settles.{Settles}
 use Rattle.settling.proofs.Applied.{lowest_narrows, lowest_voids, applied_keeps, applied_narrower}
-use Rattle.settling.proofs.Sleeps.{all_pending, stays_quiet}
+use Rattle.settling.proofs.Sleeps.{stays_quiet}
 use Rattle.settling.proofs.settle.settle_rows.Goals as goal
 
 pub scan-init : goal.scan-init
-scan-init g c = (stay, (λ q l e. absurd (both_ways _ e (all_pending 4096 q))), refl)
-
-pub loop-rule-preserved-then-not-pending-rule : goal.loop-rule-preserved-then-not-pending-rule
-loop-rule-preserved-then-not-pending-rule g c =
-    let (below, same, asleep, long) = c.loop-rule.invariant in (
-      below_more _ _ below (asleep c.loop-rule.rule (omega arith)
-          (get_or_default c.loop-rule.pending c.loop-rule.rule true false
-          (omega (arith, (g.F.Family.lawful c.args.family.now).few)) ∙ c.if-not-pending-rule.true)),
-      same,
-      asleep,
-      long,
-    )
+scan-init g c = (stay, (λ q l e. absurd (both_ways _ e (get_or-replicate 4096 q true true (omega (arith, (g.F.Family.lawful c.args.family.now).few))))), refl)
 
 pub narrow-requires : goal.narrow-requires
 narrow-requires g c =
