@@ -3,7 +3,8 @@ use Rattle.std.proofs.Common.{◌≡◌, ℕ, zero, suc, ◌+◌, ◌*◌, ◌/�
 use Rattle.std.specs.List.{flat_map}
 use Rattle.std.proofs.lemmas.List.{get_or-append-add, length-append}
 use Rattle.records.specs.Bytes.{number}
-use Rattle.records.specs.Records.{Bounds, bounds_at, Plate, plate_at, Triple, triple_at, Term, Total, total_at, numbers, terms}
+use Rattle.bounds.specs.declared.row.Row.{Row}
+use Rattle.records.specs.Records.{bounds_at, Plate, plate_at, Triple, triple_at, Term, Total, total_at, numbers, terms}
 use Rattle.job.specs.Written.{bytes, bounds_bytes, plate_bytes, triple_bytes, term_bytes, total_bytes, Each}
 
 -- bytes behind others
@@ -69,7 +70,7 @@ pub field : (w : ℕ) (fields : List ℕ) (n : ℕ) (pre post : List ℕ) → n 
 field w fields n pre post h = number_behind w pre (fields ++ (bytes w n ++ post)) (length fields) ∙ number_at w n fields post h
 
 -- each kind of record
-pub bounds_back : (x : Bounds) (pre post : List ℕ) → x.low < 65536 → x.high < 65536 → bounds_at (pre ++ (bounds_bytes x ++ post)) (length pre) ≡ x
+pub bounds_back : (x : Row) (pre post : List ℕ) → x.low < 65536 → x.high < 65536 → bounds_at (pre ++ (bounds_bytes x ++ post)) (length pre) ≡ x
 bounds_back x pre post h g = λ t. record {
   low = number_at 2 x.low pre (bytes 2 x.high ++ post) h t;
   high = field 2 (bytes 2 x.low) x.high pre post g t;

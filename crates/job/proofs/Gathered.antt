@@ -1,7 +1,6 @@
 -- The bodies one after another: what is left of them decides, and what was found is held.
-use Rattle.std.proofs.Common.{◌≡◌, ℕ, zero, suc, ◌+◌, ◌-◌, ◌*◌, ◌<◌, ◌≤◌, min, Bool, true, false, cond, ltb, List, [], ◌∷◌, ◌++◌, map, length, get_or, take, drop, sym, refl, ap, ◌∙◌, inl, inr, arith}
-use Rattle.std.proofs.lemmas.List.{length-take, length-drop, take-take, take-append-le, drop_all, drop_at, length-take-le, take_all, drop-take}
-use Rattle.std.proofs.lemmas.Bool.{cases_lt}
+use Rattle.std.proofs.Common.{◌≡◌, ℕ, zero, suc, ◌+◌, ◌-◌, ◌*◌, ◌<◌, ◌≤◌, Bool, true, false, cond, ltb, List, [], ◌∷◌, ◌++◌, map, length, get_or, take, drop, sym, refl, ap, ◌∙◌, arith}
+use Rattle.std.proofs.lemmas.List.{length-take, length-drop, take-take, take-append-le, drop_all, drop_at, length-take-le, drop-take}
 use Rattle.records.specs.Forms.{cells_form}
 use Rattle.job.specs.declared.tally.Tally.{Tally}
 use Rattle.job.specs.Reading.{records, rules, found}
@@ -129,20 +128,9 @@ held_on t low (suc (suc (suc (suc zero)))) start end before after ps r l h g w c
 held_on t low (suc (suc (suc (suc (suc k))))) start end before after ps r l h g w c = absurd (omega arith)
 
 -- a part of the table
-pub part_is : (xs : List ℕ) (start end least : ℕ) → start < least → least ≡ min end (length xs)
-    → take (least - start) (drop start xs) ≡ drop start (take end xs)
-part_is xs start end least h e =
-    let z : start + (least - start) ≡ least = omega arith in
-    sym (drop-take start (least - start) xs) ∙ ap (λ (n : ℕ). drop start (take n xs)) z ∙ ap (drop start) (clipped xs end least e)
-  where
-    clipped : (xs : List ℕ) (end least : ℕ) → least ≡ min end (length xs) → take least xs ≡ take end xs
-    clipped xs end least e = elim (cases_lt (length xs) end) [
-      | inl l ↦ (let z : length xs ≤ least = omega arith in take_all least xs z) ∙ sym (let y : length xs ≤ end = omega arith in take_all end xs y)
-      | inr l ↦ (let z : least ≡ end = omega arith in ap (λ (n : ℕ). take n xs) z)
-    ]
-
-pub part_none : (xs : List ℕ) (start end least : ℕ) → least ≤ start → least ≡ min end (length xs) → [] ≡ drop start (take end xs)
-part_none xs start end least h e = sym (drop_all start (take end xs) (omega (arith, length-take end xs)))
+pub part_is : (xs : List ℕ) (start end : ℕ) → start ≤ end → take (end - start) (drop start xs) ≡ drop start (take end xs)
+part_is xs start end h =
+    let z : start + (end - start) ≡ end = omega arith in sym (drop-take start (end - start) xs) ∙ ap (λ n. drop start (take n xs)) z
 
 pub get_or_spaced : (n i j : ℕ) → j < n → get_or (spaced n i) j 0 ≡ i + 4 * j
 get_or_spaced zero i j h = absurd (omega arith)

@@ -1,7 +1,7 @@
 -- The reading, body by body: what is left of it decides.
 use Rattle.std.proofs.Common.{◌≡◌, ℕ, zero, suc, ◌+◌, ◌-◌, ◌*◌, ◌<◌, ◌≤◌, Bool, true, false, leb, List, ◌∷◌, map, length, get_or, Some, None, Option, sym, refl, ap, ◌∙◌, subst, inl, inr, arith}
-use Rattle.std.proofs.lemmas.Bool.{cases_lt, cases_eq, ltb-false, not-false, and_parts, leb-true, cond_both}
-use Rattle.records.specs.Forms.{Form, cells_form, between}
+use Rattle.std.proofs.lemmas.Bool.{cases_lt, cases_eq, cond_both}
+use Rattle.records.specs.Forms.{Form, cells_form}
 use Rattle.records.specs.declared.refused.Refused.{Refused}
 use Rattle.job.specs.declared.entry.Entry.{Entry}
 use Rattle.job.specs.declared.tally.Tally.{Tally}
@@ -9,11 +9,8 @@ use Rattle.job.specs.Contents.{entry_at, entries, entries_from, misordered, misp
 use Rattle.job.specs.Reading.{Found, Reading, refused, granted, unless, body, form_of, body_records, record_faults, found, nothing, bodies, reading}
 use Rattle.job.specs.Tallies.{spaced, held, tallied, no_tally}
 use Rattle.job.specs.Walked.{Walked}
-use Rattle.job.proofs.Listings.{left, left_more, kind_on, kind_off, place_on, place_off}
+use Rattle.job.proofs.Listings.{never, left, left_more, kind_on, kind_off, place_on, place_off}
 use Rattle.job.proofs.Gathered.{Fresh, Written, fresh_on, held_on, rules_held, length_spaced, cells_spaced}
-
-never : {A : Type 0} (x : Refused) → ◌≡◌ {A = Option Refused} None (Some x) → A
-never x e = let z : ◌≡◌ {A = ℕ} 0 1 = cc in absurd (omega arith)
 
 -- an entry of lawful contents, and what is left after it
 pub record Placed (f : List ℕ) (n i low high start : ℕ) (e : Entry) : Type 0 where
@@ -53,8 +50,6 @@ pub record Gathering (f : List ℕ) (n i : ℕ) (t : Tally) (table : List ℕ) :
   pub start : ℕ
   pub above : 1 ≤ low
   pub below : high ≤ 4
-  pub short : length f ≤ 65535
-  pub few_entries : n ≤ 4
   pub ordered : misordered low high (1 + 9 * i) (left f n i) ≡ None
   pub laid : misplaced (length f) start (1 + 9 * i) (left f n i) ≡ None
   pub fresh : Fresh t low
@@ -84,7 +79,7 @@ pub gathers_off : (f : List ℕ) (n i : ℕ) (t : Tally) (table : List ℕ) (e :
     → bodies f nothing (entries f) ≡ refused r
 gathers_off f n i t table e s b r g h d fs fb off =
     sym (bodies_more f n i t table e g h d)
-    ∙ ap (λ (o : Option Refused). unless o (bodies f (found (held t table) e.kind (map (λ k. e.offset + k) (body_records (form_of e.kind) (body f e)))) (left f n (i + 1))))
+    ∙ ap (λ (x : Option Refused). unless x (bodies f (found (held t table) e.kind (map (λ k. e.offset + k) (body_records (form_of e.kind) (body f e)))) (left f n (i + 1))))
     ((λ j. record_faults (sym fs j) e.offset t.cells (sym fb j) t.totals (body_records (sym fs j) (sym fb j))) ∙ off)
 
 form_kind : (k : ℕ) → 1 ≤ k → k ≤ 4 → (form_of k).kind ≡ k
@@ -126,8 +121,6 @@ gathers_on f n i t table after e s b end g h d fs fb room w =
       start = e.offset + e.size;
       above = omega arith;
       below = omega arith;
-      short = g.short;
-      few_entries = g.few_entries;
       ordered = p.ordered;
       laid = p.laid;
       fresh = subst (λ (k : ℕ). Fresh (tallied t k e.offset end) (e.kind + 1)) (sym kind)
@@ -163,16 +156,12 @@ gathers f n table count room none =
     let b = first_none (short f) _ a.1 in
     let c = first_none (miscounted f) _ b.1 in
     let d = first_none (misordered 1 1 1 (entries f)) _ c.1 in
-    let fits : between 1 4 (get_or f 0 0) ≡ true = not-false _ (when_none _ _ c.0) in
-    let four : get_or f 0 0 ≤ 4 = leb-true (get_or f 0 0) 4 (and_parts (leb 1 (get_or f 0 0)) (leb (get_or f 0 0) 4) fits).1 in
     record {
       low = 1;
       high = 1;
       start = contents_end f;
       above = omega arith;
       below = omega arith;
-      short = ltb-false _ _ (when_none _ _ a.0);
-      few_entries = omega (arith, four, count);
       ordered = ap (misordered 1 1 1) all ∙ d.0;
       laid = ap (misplaced (length f) (contents_end f) 1) all ∙ d.1;
       fresh = record { plates = λ _. refl; triples = λ _. refl; totals = λ _. refl; plates_first = omega arith; totals_last = omega arith };

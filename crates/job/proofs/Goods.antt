@@ -3,7 +3,8 @@ use Rattle.std.proofs.Common.{◌≡◌, ℕ, ◌+◌, ◌*◌, ◌<◌, ◌≤�
 use Rattle.std.specs.List.{flat_map}
 use Rattle.std.proofs.lemmas.Bool.{le-leb, and_parts, ltb-true, leb-true, eqb-true}
 use Rattle.bounds.specs.Scoped.{fits, distinct}
-use Rattle.records.specs.Records.{Bounds, Plate, Triple, Term, Total, plate_at, triple_at, total_at, bounds_at}
+use Rattle.bounds.specs.declared.row.Row.{Row}
+use Rattle.records.specs.Records.{Plate, Triple, Term, Total, plate_at, triple_at, total_at, bounds_at}
 use Rattle.records.specs.Forms.{Form, between, weighted, cells_form, plates_form, triples_form, totals_form, plate_names, triple_names, term_cells, triple_limits, total_limits}
 use Rattle.job.specs.Written.{Each, bytes, bounds_bytes, plate_bytes, triple_bytes, term_bytes, total_bytes, LawfulBounds, LawfulPlate, LawfulTriple, LawfulTotal}
 use Rattle.job.proofs.Codecs.{bounds_back, plate_back, triple_back, total_back}
@@ -26,14 +27,14 @@ length_terms : (ts : List Term) → length (flat_map term_bytes ts) ≡ 6 * leng
 length_terms [] = refl
 length_terms (t ∷ ts) = omega (arith, length_terms ts)
 
-pub bounds_read : (b : Bounds) (pre post : List ℕ) → LawfulBounds b → bounds_at (pre ++ (bounds_bytes b ++ post)) (length pre) ≡ b
+pub bounds_read : (b : Row) (pre post : List ℕ) → LawfulBounds b → bounds_at (pre ++ (bounds_bytes b ++ post)) (length pre) ≡ b
 bounds_read b pre post h = bounds_back b pre post (omega (arith, h.0, h.1)) h.1
 
-pub good_bounds : (n : ℕ) (b : Bounds) → LawfulBounds b → Good cells_form n (bounds_bytes b)
+pub good_bounds : (n : ℕ) (b : Row) → LawfulBounds b → Good cells_form n (bounds_bytes b)
 good_bounds n b h = record {
   some = omega arith;
   size = λ pre post. refl;
-  limits = λ pre post. ap (λ (x : Bounds). leb x.low x.high) (bounds_read b pre post h) ∙ le-leb b.low b.high h.0;
+  limits = λ pre post. ap (λ (x : Row). leb x.low x.high) (bounds_read b pre post h) ∙ le-leb b.low b.high h.0;
   fit = λ pre post. refl;
   apart = λ pre post. refl;
 }

@@ -5,7 +5,6 @@ pub mod Gathering
 pub mod Goods
 pub mod Granting
 pub mod Listings
-pub mod Named
 pub mod Strings
 pub mod Telling
 pub mod Walks

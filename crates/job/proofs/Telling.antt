@@ -9,9 +9,7 @@ use Rattle.job.specs.Contents.{entries, entries_from, first, when, ends, content
 use Rattle.job.specs.Contents as contents
 use Rattle.job.specs.Reading.{Found, Reading, refused, granted, unless, record_fault, record_faults, rules, nothing, bodies, reading}
 use Rattle.job.specs.Told.{Told, long, short, uncounted, misnamed, misplaced, overruns, breaks, repeats, entry, form_at, body_at, records_at, Misnamed, Misplaced, due, before, Breaks}
-
-never : {A : Type 0} (x : Refused) → ◌≡◌ {A = Option Refused} None (Some x) → A
-never x e = let z : ◌≡◌ {A = ℕ} 0 1 = cc in absurd (omega arith)
+use Rattle.job.proofs.Listings.{never}
 
 same : (x y : Refused) → ◌≡◌ {A = Option Refused} (Some x) (Some y) → y ≡ x
 same x y e = cc

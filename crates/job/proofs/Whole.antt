@@ -1,7 +1,8 @@
 -- The file of lawful records is granted, and reads as those records.
 use Rattle.std.proofs.Common.{◌≡◌, ℕ, ◌+◌, ◌*◌, ◌≤◌, List, [], ◌∷◌, ◌++◌, map, length, None, sym, refl, ap, ◌∙◌, subst, arith}
 use Rattle.std.proofs.lemmas.List.{length-append, length-map}
-use Rattle.records.specs.Records.{Bounds, Plate, Triple, Total, plate_at, triple_at, total_at, bounds_at}
+use Rattle.bounds.specs.declared.row.Row.{Row}
+use Rattle.records.specs.Records.{Plate, Triple, Total, plate_at, triple_at, total_at, bounds_at}
 use Rattle.records.specs.Forms.{cells_form, plates_form, triples_form, totals_form}
 use Rattle.records.specs.declared.refused.Refused.{Refused}
 use Rattle.job.specs.Contents.{misordered}
@@ -12,7 +13,7 @@ use Rattle.job.proofs.Files.{listed}
 use Rattle.job.proofs.Granting.{placed, Fine, Spots, filed_granted, filed_spots, reads}
 use Rattle.job.proofs.Goods.{goods, bounds_read, good_bounds, plate_read, good_plate, triple_read, good_triple, total_read, good_total}
 
-ordered : (c : Bounds) (cs : List Bounds) (ps : List Plate) (ts : List Triple) (us : List Total) (start : ℕ)
+ordered : (c : Row) (cs : List Row) (ps : List Plate) (ts : List Triple) (us : List Total) (start : ℕ)
     → misordered 1 1 1 (listed start (sections (record { cells = c ∷ cs; plates = ps; triples = ts; totals = us }))) ≡ None
 ordered c cs [] [] [] start = refl
 ordered c cs [] [] (_ ∷ _) start = refl
@@ -102,7 +103,7 @@ tail_plates n l (p ∷ ps) ts us f g start c d e lp lt lu s =
     let x = tail_triples n l ts us f (found g 2 (map (λ i. start + i) (offsets 0 (map plate_bytes (p ∷ ps))))) _ d e lt lu s.1 in
     (x.0, ap (map (plate_at f)) x.1 ∙ read_section plate_at plate_bytes (LawfulPlate n) (plate_read n l) (p ∷ ps) lp f start s.0, x.2, x.3)
 
-whole : (cs : List Bounds) (ps : List Plate) (ts : List Triple) (us : List Total) → let r : Records = record { cells = cs; plates = ps; triples = ts; totals = us } in
+whole : (cs : List Row) (ps : List Plate) (ts : List Triple) (us : List Total) → let r : Records = record { cells = cs; plates = ps; triples = ts; totals = us } in
     Lawful r → (g : Found) × (reading (written r) ≡ granted g) × Read (written r) g r
 whole [] ps ts us law = absurd (omega (arith, law.some_cells))
 whole (c ∷ cs) ps ts us law =

@@ -34,4 +34,4 @@ tallied t kind start end = record {
 
 -- the row of the cell whose record stands at a place
 abbrev pub row_at : List ℕ → ℕ → Row
-row_at f i = record { low = (bounds_at f i).low; high = (bounds_at f i).high }
+row_at = bounds_at

@@ -2,12 +2,13 @@
 use Rattle.std.specs.Prelude.{◌≡◌, ℕ, zero, suc, ◌+◌, ◌*◌, ◌/◌, ◌%◌, ◌<◌, ◌≤◌, true, List, [], ◌∷◌, ◌++◌, map, length}
 use Rattle.std.specs.List.{flat_map}
 use Rattle.bounds.specs.Scoped.{fits, distinct}
-use Rattle.records.specs.Records.{Bounds, bounds_at, Plate, plate_at, Triple, triple_at, Term, Total, total_at}
+use Rattle.bounds.specs.declared.row.Row.{Row}
+use Rattle.records.specs.Records.{bounds_at, Plate, plate_at, Triple, triple_at, Term, Total, total_at}
 use Rattle.records.specs.Forms.{between, plate_names, triple_names, term_cells, triple_limits, total_limits}
 use Rattle.job.specs.Reading.{Found}
 
 pub record Records : Type 0 where
-  pub cells : List Bounds
+  pub cells : List Row
   pub plates : List Plate
   pub triples : List Triple
   pub totals : List Total
@@ -17,7 +18,7 @@ abbrev pub bytes : ℕ → ℕ → List ℕ
 bytes zero n = []
 bytes (suc w) n = n % 256 ∷ bytes w (n / 256)
 
-abbrev pub bounds_bytes : Bounds → List ℕ
+abbrev pub bounds_bytes : Row → List ℕ
 bounds_bytes b = bytes 2 b.low ++ bytes 2 b.high
 
 abbrev pub plate_bytes : Plate → List ℕ
@@ -65,7 +66,7 @@ Each P [] = Unit {0}
 Each P (x ∷ xs) = P x × Each P xs
 
 -- Records within the limits, on so many cells.
-abbrev pub LawfulBounds : Bounds → Type 0
+abbrev pub LawfulBounds : Row → Type 0
 LawfulBounds b = (b.low ≤ b.high) × (b.high < 65536)
 
 abbrev pub LawfulPlate : ℕ → Plate → Type 0

@@ -2,25 +2,27 @@
 ghost use Rattle.std.specs.Prelude.{◌≡◌, ◌+◌};
 ghost use Rattle.job.specs.Contents.{entry_at};
 
-use records::bytes::{byte_at, u32_at};
+use records::bytes::Spot;
+
+// The bytes of an entry.
+pub const ENTRY_BYTES: u16 = 9;
 
 #[derive(Clone, Copy)]
 pub struct Entry {
+    // Kept: the byte as written, since an entry is read before its kind is known to be one.
     pub kind: u8,
     pub offset: u32,
     pub size: u32,
 }
 
 impl Entry {
-    // The entry at a place of the file.
-    pub fn at(file: &[u8], place: u16) -> Entry
-        ensures { result ≡ entry_at file.now place }
+    pub fn at(spot: Spot<'_>) -> Entry
+        ensures { result ≡ entry_at spot.entry.bytes.now spot.entry.place }
     {
-        let place = usize::from(place);
         Entry {
-            kind: byte_at(file, place),
-            offset: u32_at(file, place + 1),
-            size: u32_at(file, place + 5),
+            kind: spot.u8(0),
+            offset: spot.u32(1),
+            size: spot.u32(5),
         }
     }
 
@@ -28,6 +30,7 @@ impl Entry {
     pub fn end(self) -> usize
         ensures { result ≡ self.offset + self.size }
     {
+        // Kept: no From takes a u32 to a usize.
         self.offset as usize + self.size as usize
     }
 }

@@ -26,13 +26,13 @@ pub enum JobFault {
     Record(RecordFault),
 }
 
-impl ContentsFault {
-    pub fn refused(self) -> Refused
-        ensures { result ≡ of_contents self }
-    {
-        let (number, place) = match self {
+impl From<ContentsFault> for Refused {
+    ghost from_gives = { λ fault r. r ≡ of_contents fault };
+
+    fn from(fault: ContentsFault) -> Refused {
+        let (number, place) = match fault {
             ContentsFault::Long => (1, 65535),
-            ContentsFault::Bytes(fault) => return fault.refused(),
+            ContentsFault::Bytes(fault) => return fault.into(),
             ContentsFault::Count => (3, 0),
             ContentsFault::Kind { place } => (3, place),
             ContentsFault::Layout { place } => (4, place),
@@ -45,14 +45,23 @@ impl ContentsFault {
     }
 }
 
+impl From<JobFault> for Refused {
+    ghost from_gives = { λ fault r. r ≡ of_job fault };
+
+    fn from(fault: JobFault) -> Refused {
+        match fault {
+            JobFault::Contents(fault) => fault.into(),
+            JobFault::Record(fault) => fault.into(),
+        }
+    }
+}
+
+// Kept: public, for a caller that wants one number of the fault; all come from the conversion above.
 impl JobFault {
     pub fn refused(self) -> Refused
         ensures { result ≡ of_job self }
     {
-        match self {
-            JobFault::Contents(fault) => fault.refused(),
-            JobFault::Record(fault) => fault.refused(),
-        }
+        self.into()
     }
 
     // The number of the line that the file breaks.

@@ -2,9 +2,12 @@
 
 mod body;
 mod contents;
+mod entries;
 mod entry;
 pub mod fault;
+mod file;
 pub mod job;
-mod names;
+mod named;
+mod record;
+mod span;
 mod tally;
-mod walk;

@@ -6,7 +6,7 @@ ghost use Rattle.job.specs.Tallies.{tallied};
 
 use crate::body::Body;
 
-#[derive(Clone, Copy)]
+#[derive(Clone, Copy, Default)]
 pub struct Tally {
     // Where the first cell stands, and how many there are.
     pub start: u16,
@@ -24,9 +24,11 @@ impl Tally {
         requires few { end ≤ 1024 }
         ensures { result ≡ tallied self (body_form body.entry).kind start end }
     {
+        // Kept: an arm for each kind, since each says by name which ends it moves.
         match body {
             Body::Cells(_) => Tally {
                 start,
+                // Kept: that the cast keeps the number is proved, where a try_from would add an error that cannot be.
                 cells: (end - self.totals) as u16,
                 ..self
             },

@@ -1,13 +1,14 @@
-use crate::files::{Outcome, cells, fault_at, rules, tried};
+use crate::files::{Sizes, cells, fault_at, rules, tried};
+use records::refused::Refused;
 use std::process::Abort;
 use std::test::Fail;
 
-const SMALL: Outcome = Outcome::Granted {
+const SMALL: Result<Sizes, Refused> = Ok(Sizes {
     cells: 4,
     plates: 1,
     triples: 0,
     totals: 0,
-};
+});
 
 // What becomes of a file with cells and one body of rules.
 fn reads(
@@ -15,7 +16,7 @@ fn reads(
     cells: u16,
     kind: u8,
     numbers: &[u16],
-    expected: Outcome,
+    expected: Result<Sizes, Refused>,
 ) -> Result<(), Fail> {
     let file = rules(rt.alloc(), cells, kind, numbers)?;
     assert_eq!(rt; tried(file.as_slice()), expected);
@@ -79,12 +80,12 @@ fn kinds_rise(rt: HostRuntime) -> Result<(), Fail> {
 
 #[test]
 fn number_of_cells(rt: HostRuntime) -> Result<(), Fail> {
-    let most = Outcome::Granted {
+    let most = Ok(Sizes {
         cells: 1024,
         plates: 0,
         triples: 0,
         totals: 0,
-    };
+    });
     assert_eq!(rt; tried(cells(rt.alloc(), 1024)?.as_slice()), most);
     assert_eq!(rt;
         tried(cells(rt.alloc(), 1025)?.as_slice()),
@@ -111,12 +112,12 @@ fn plates(rt: HostRuntime) -> Result<(), Fail> {
 
 #[test]
 fn triples(rt: HostRuntime) -> Result<(), Fail> {
-    let one = Outcome::Granted {
+    let one = Ok(Sizes {
         cells: 4,
         plates: 0,
         triples: 1,
         totals: 0,
-    };
+    });
     reads(&rt, 4, 3, &[3, 0, 1, 2], one)?;
     reads(&rt, 4, 3, &[4, 0, 1, 65535], one)?;
     reads(&rt, 4, 3, &[4, 0, 1, 2], fault_at(6, 3, 35))?;
@@ -127,12 +128,12 @@ fn triples(rt: HostRuntime) -> Result<(), Fail> {
 
 #[test]
 fn totals(rt: HostRuntime) -> Result<(), Fail> {
-    let one = Outcome::Granted {
+    let one = Ok(Sizes {
         cells: 4,
         plates: 0,
         triples: 0,
         totals: 1,
-    };
+    });
     // weights 1 and 1,000,000, which is 15 * 65,536 + 16,960
     reads(&rt, 4, 4, &[1, 5, 0, 0, 0, 5, 0, 0, 0, 0, 1, 0], one)?;
     reads(&rt, 4, 4, &[1, 5, 0, 0, 0, 5, 0, 0, 0, 0, 16960, 15], one)?;
@@ -176,16 +177,16 @@ fn totals(rt: HostRuntime) -> Result<(), Fail> {
 
 #[test]
 fn number_of_counts(rt: HostRuntime) -> Result<(), Fail> {
-    let one = Outcome::Granted {
+    let one = Ok(Sizes {
         cells: 70,
         plates: 1,
         triples: 0,
         totals: 0,
-    };
+    });
     // slots in cell 66, variety in cell 67, counts in the cells from 0 on
     let mut numbers = [0u16; 68];
-    for i in 3..68 {
-        numbers[i] = i as u16 - 3;
+    for (count, cell) in numbers[3..].iter_mut().zip(0..) {
+        *count = cell;
     }
     numbers[0] = 66;
     numbers[1] = 67;
@@ -197,16 +198,16 @@ fn number_of_counts(rt: HostRuntime) -> Result<(), Fail> {
 
 #[test]
 fn number_of_rules(rt: HostRuntime) -> Result<(), Fail> {
-    let most = Outcome::Granted {
+    let most = Ok(Sizes {
         cells: 4,
         plates: 0,
         triples: 1024,
         totals: 0,
-    };
+    });
     // union, of cell 0 and cell 1, in cell 2, again and again
     let mut numbers = [1u16; 4100];
-    for i in 0..4100 {
-        numbers[i] = [1, 0, 1, 2][i % 4];
+    for triple in numbers.chunks_exact_mut(4) {
+        triple.copy_from_slice(&[1, 0, 1, 2]);
     }
     reads(&rt, 4, 3, &numbers[0..4096], most)?;
     reads(&rt, 4, 3, &numbers, fault_at(6, 3, 8227))

@@ -1,13 +1,10 @@
 -- The records of the four kinds of body, as they stand in the file's bytes from a place on.
 use Rattle.std.specs.Prelude.{ℕ, zero, suc, ◌+◌, List, [], ◌∷◌}
+use Rattle.bounds.specs.declared.row.Row.{Row}
 use Rattle.records.specs.Bytes.{number}
 
 -- 4 bytes: the bounds of a cell
-pub record Bounds : Type 0 where
-  pub low : ℕ
-  pub high : ℕ
-
-abbrev pub bounds_at : List ℕ → ℕ → Bounds
+abbrev pub bounds_at : List ℕ → ℕ → Row
 bounds_at f i = record { low = number 2 f i; high = number 2 f (i + 2) }
 
 -- k numbers of two bytes

@@ -1,9 +1,13 @@
 // What the four kinds of body share.
-ghost use Rattle.std.specs.Prelude.{◌≡◌, ℕ, ◌^◌, ◌<◌, max, List, length, slice_index};
+ghost use Rattle.std.specs.Prelude.{◌≡◌, ℕ, ◌^◌, ◌<◌, List, length, slice_index};
 ghost use Rattle.records.specs.Forms.{Form};
 ghost use Rattle.records.specs.Kinds.{kind_number};
 
+use crate::bytes::Spot;
 use crate::kind::Kind;
+
+// The most count cells of a plate, and the most cells of a total.
+pub const MOST_LISTED: u16 = 64;
 
 // A body is one record after another; its bytes are read with 0 past their end.
 pub trait BodyKind {
@@ -20,24 +24,24 @@ pub trait BodyKind {
     fn kind() -> Kind
         ensures { kind_number result ≡ form.kind };
 
-    fn read(body: &[u8], place: u16) -> Self::Record
-        ensures { result ≡ record_at body.now place };
+    fn read(at: Spot<'_>) -> Self::Record
+        ensures { result ≡ record_at at.entry.bytes.now at.entry.place };
 
     // The bytes of the whole record, with its count as written.
-    fn size(body: &[u8], place: u16) -> usize
-        ensures value { result ≡ form.size body.now place }
+    fn size(at: Spot<'_>) -> usize
+        ensures value { result ≡ form.size at.entry.bytes.now at.entry.place }
         ensures low_bound { 0 < result }
         ensures high_bound { result < 2 ^ 20 };
 
-    fn keeps_limits(body: &[u8], place: u16) -> bool
-        ensures { result ≡ form.limits body.now place };
+    fn keeps_limits(at: Spot<'_>) -> bool
+        ensures { result ≡ form.limits at.entry.bytes.now at.entry.place };
 
     // How many cells the record names.
-    fn arity(body: &[u8], place: u16) -> usize
-        ensures { result ≡ length (form.names body.now place) };
+    fn arity(at: Spot<'_>) -> usize
+        ensures { result ≡ length (form.names at.entry.bytes.now at.entry.place) };
 
-    // Of a record that names no cell, as one of a body of cells, the first may be asked all the same.
-    fn name(body: &[u8], place: u16, index: usize) -> u16
-        requires { index < max 1 (length (form.names body.now place)) }
-        ensures { index < length (form.names body.now place) → result ≡ slice_index (form.names body.now place) index };
+    // The cell at an index; 0 past the last.
+    // Kept: only the cells up to the arity are asked for, and an Option would be unwrapped at each of them.
+    fn name(at: Spot<'_>, index: usize) -> u16
+        ensures { result ≡ slice_index (form.names at.entry.bytes.now at.entry.place) index };
 }

@@ -1,36 +1,90 @@
 // Numbers in the job file's bytes, lowest byte first; a byte past the end reads as 0.
-ghost use Rattle.std.specs.Prelude.{◌≡◌, ℕ, slice_index};
+ghost use Rattle.std.specs.Prelude.{◌≡◌, ℕ, ◌+◌, ◌<◌, drop, length, slice_index};
 ghost use Rattle.records.specs.Bytes.{number};
 
+use std::array;
+
+// A place in a job file's bytes.
+#[derive(Clone, Copy)]
+pub struct Spot<'f> {
+    pub bytes: &'f [u8],
+    pub place: usize,
+}
+
+impl<'f> Spot<'f> {
+    pub fn u8(self, offset: usize) -> u8
+        ensures { result ≡ slice_index self.entry.bytes.now (self.entry.place + offset) }
+    {
+        byte_at(self.rest(), offset)
+    }
+
+    // The number so many bytes past the place.
+    pub fn u16(self, offset: usize) -> u16
+        ensures { result ≡ number 2 self.entry.bytes.now (self.entry.place + offset) }
+    {
+        u16_at(self.rest(), offset)
+    }
+
+    pub fn u32(self, offset: usize) -> u32
+        ensures { result ≡ number 4 self.entry.bytes.now (self.entry.place + offset) }
+    {
+        u32_at(self.rest(), offset)
+    }
+
+    pub fn u64(self, offset: usize) -> u64
+        ensures { result ≡ number 8 self.entry.bytes.now (self.entry.place + offset) }
+    {
+        u64_at(self.rest(), offset)
+    }
+
+    fn rest(self) -> &'f [u8]
+        ensures { result.now ≡ drop self.entry.place self.entry.bytes.now }
+    {
+        rest(self.bytes, self.place)
+    }
+}
+
+// What stands from a place on: nothing past the end.
+fn rest(file: &[u8], place: usize) -> &[u8]
+    ensures { result.now ≡ drop place file.now }
+{
+    file.get(place..).unwrap_or(&[])
+}
+
+// Kept: a caller with a place in bytes of its own, and no spot, reads by these four.
 pub fn byte_at(file: &[u8], place: usize) -> u8
     ensures { result ≡ slice_index file.now place }
 {
-    if place < file.len() { file[place] } else { 0 }
+    file.get(place).copied().unwrap_or(0)
 }
 
+// The bytes from a place on.
+fn bytes_at<const N: usize>(file: &[u8], place: usize) -> [u8; N]
+    ensures long { length result ≡ N }
+    ensures each { (i : ℕ) → i < N → slice_index result i ≡ slice_index file.now (place + i) }
+{
+    let rest = rest(file, place);
+    match rest.first_chunk() {
+        Some(whole) => *whole,
+        None => array::from_fn(|i| byte_at(rest, i)),
+    }
+}
+
+// Kept: one for each width, since each number type has a `from_le_bytes` of its own.
 pub fn u16_at(file: &[u8], place: usize) -> u16
     ensures { result ≡ number 2 file.now place }
 {
-    if place >= file.len() {
-        return 0;
-    }
-    u16::from(file[place]) + 256 * u16::from(byte_at(file, place + 1))
+    u16::from_le_bytes(bytes_at(file, place))
 }
 
 pub fn u32_at(file: &[u8], place: usize) -> u32
     ensures { result ≡ number 4 file.now place }
 {
-    if place >= file.len() {
-        return 0;
-    }
-    u32::from(u16_at(file, place)) + 65536 * u32::from(u16_at(file, place + 2))
+    u32::from_le_bytes(bytes_at(file, place))
 }
 
 pub fn u64_at(file: &[u8], place: usize) -> u64
     ensures { result ≡ number 8 file.now place }
 {
-    if place >= file.len() {
-        return 0;
-    }
-    u64::from(u32_at(file, place)) + 4294967296 * u64::from(u32_at(file, place + 4))
+    u64::from_le_bytes(bytes_at(file, place))
 }

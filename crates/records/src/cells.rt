@@ -1,55 +1,47 @@
 // The first body: the bounds of the cells.
-ghost use Rattle.std.specs.Prelude.{◌+◌, true};
-ghost use Rattle.records.specs.Bytes.{number};
+ghost use Rattle.records.specs.Records.{bounds_at};
 ghost use Rattle.records.specs.Forms.{cells_form};
 
 use crate::body::BodyKind;
-use crate::bytes::u16_at;
+use crate::bytes::Spot;
 use crate::kind::Kind;
-
-#[derive(Clone, Copy)]
-pub struct Bounds {
-    pub low: u16,
-    pub high: u16,
-}
+use bounds::row::Row;
 
 pub struct Cells;
 
 impl BodyKind for Cells {
-    type Record = Bounds;
+    type Record = Row;
 
     const HEAD: usize = 4;
 
     ghost form = { cells_form };
 
-    ghost record_at = { λ b i. record { low = number 2 b i; high = number 2 b (i + 2) } };
+    ghost record_at = { bounds_at };
 
     fn kind() -> Kind {
         Kind::Cells
     }
 
-    fn read(body: &[u8], place: u16) -> Bounds {
-        let at = usize::from(place);
-        Bounds {
-            low: u16_at(body, at),
-            high: u16_at(body, at + 2),
+    fn read(at: Spot<'_>) -> Row {
+        Row {
+            low: at.u16(0),
+            high: at.u16(2),
         }
     }
 
-    fn size(_body: &[u8], _place: u16) -> usize {
+    fn size(_at: Spot<'_>) -> usize {
         Self::HEAD
     }
 
-    fn keeps_limits(body: &[u8], place: u16) -> bool {
-        let Bounds { low, high } = Self::read(body, place);
-        low <= high
+    fn keeps_limits(at: Spot<'_>) -> bool {
+        Self::read(at).is_sound()
     }
 
-    fn arity(_body: &[u8], _place: u16) -> usize {
+    fn arity(_at: Spot<'_>) -> usize {
         0
     }
 
-    fn name(_body: &[u8], _place: u16, _index: usize) -> u16 {
+    fn name(_at: Spot<'_>, _index: usize) -> u16 {
         0
     }
 }

@@ -23,11 +23,11 @@ pub enum RecordFault {
     Twice { kind: Kind, place: u16 },
 }
 
-impl ByteFault {
-    pub fn refused(self) -> Refused
-        ensures { result ≡ of_bytes self }
-    {
-        match self {
+impl From<ByteFault> for Refused {
+    ghost from_gives = { λ fault r. r ≡ of_bytes fault };
+
+    fn from(fault: ByteFault) -> Refused {
+        match fault {
             ByteFault::Contents { end } => Refused {
                 number: 2,
                 kind: 0,
@@ -42,12 +42,12 @@ impl ByteFault {
     }
 }
 
-impl RecordFault {
-    pub fn refused(self) -> Refused
-        ensures { result ≡ of_record self }
-    {
-        match self {
-            RecordFault::Bytes(fault) => fault.refused(),
+impl From<RecordFault> for Refused {
+    ghost from_gives = { λ fault r. r ≡ of_record fault };
+
+    fn from(fault: RecordFault) -> Refused {
+        match fault {
+            RecordFault::Bytes(fault) => fault.into(),
             RecordFault::Number { kind, place } => Refused {
                 number: 6,
                 kind: kind as u8,

@@ -3,8 +3,8 @@ ghost use Rattle.std.specs.Prelude.{◌+◌};
 ghost use Rattle.records.specs.Bytes.{number};
 ghost use Rattle.records.specs.Forms.{plates_form};
 
-use crate::body::BodyKind;
-use crate::bytes::u16_at;
+use crate::body::{BodyKind, MOST_LISTED};
+use crate::bytes::Spot;
 use crate::kind::Kind;
 
 #[derive(Clone, Copy)]
@@ -29,34 +29,37 @@ impl BodyKind for Plates {
         Kind::Plates
     }
 
-    fn read(body: &[u8], place: u16) -> PlateHead {
-        let at = usize::from(place);
+    fn read(at: Spot<'_>) -> PlateHead {
         PlateHead {
-            slots: u16_at(body, at),
-            variety: u16_at(body, at + 2),
-            counts: u16_at(body, at + 4),
+            slots: at.u16(0),
+            variety: at.u16(2),
+            counts: at.u16(4),
         }
     }
 
-    fn size(body: &[u8], place: u16) -> usize {
-        Self::HEAD + 2 * usize::from(Self::read(body, place).counts)
+    #[tactic(auto, using(crate::proofs::Fields::length_numbers))]
+    fn size(at: Spot<'_>) -> usize {
+        Self::HEAD + 2 * usize::from(at.u16(4))
     }
 
-    fn keeps_limits(body: &[u8], place: u16) -> bool {
-        let counts = Self::read(body, place).counts;
-        1 <= counts && counts <= 64
+    #[tactic(auto, using(crate::proofs::Fields::length_numbers))]
+    fn keeps_limits(at: Spot<'_>) -> bool {
+        (1..=MOST_LISTED).contains(&at.u16(4))
     }
 
-    fn arity(body: &[u8], place: u16) -> usize {
-        2 + usize::from(Self::read(body, place).counts)
+    #[tactic(auto, using(crate::proofs::Fields::length_numbers))]
+    fn arity(at: Spot<'_>) -> usize {
+        2 + usize::from(at.u16(4))
     }
 
-    fn name(body: &[u8], place: u16, index: usize) -> u16 {
-        let head = Self::read(body, place);
+    #[tactic(auto, using(crate::proofs::Fields::length_numbers, crate::proofs::Fields::get_or_numbers))]
+    fn name(at: Spot<'_>, index: usize) -> u16 {
+        let head = Self::read(at);
         match index {
             0 => head.slots,
             1 => head.variety,
-            _ => u16_at(body, usize::from(place) + Self::HEAD + 2 * (index - 2)),
+            _ if index < Self::arity(at) => at.u16(Self::HEAD + 2 * (index - 2)),
+            _ => 0,
         }
     }
 }

@@ -3,8 +3,8 @@ ghost use Rattle.std.specs.Prelude.{◌+◌};
 ghost use Rattle.records.specs.Bytes.{number};
 ghost use Rattle.records.specs.Forms.{totals_form};
 
-use crate::body::BodyKind;
-use crate::bytes::{u16_at, u64_at};
+use crate::body::{BodyKind, MOST_LISTED};
+use crate::bytes::Spot;
 use crate::kind::Kind;
 
 const MOST_CEILING: u64 = 10_000_000_000_000;
@@ -31,37 +31,40 @@ impl BodyKind for Totals {
         Kind::Totals
     }
 
-    fn read(body: &[u8], place: u16) -> TotalHead {
-        let at = usize::from(place);
+    fn read(at: Spot<'_>) -> TotalHead {
         TotalHead {
-            cells: u16_at(body, at),
-            floor: u64_at(body, at + 2),
-            ceiling: u64_at(body, at + 10),
+            cells: at.u16(0),
+            floor: at.u64(2),
+            ceiling: at.u64(10),
         }
     }
 
-    fn size(body: &[u8], place: u16) -> usize {
-        Self::HEAD + 6 * usize::from(Self::read(body, place).cells)
+    #[tactic(auto, using(crate::proofs::Fields::length_terms))]
+    fn size(at: Spot<'_>) -> usize {
+        Self::HEAD + 6 * usize::from(at.u16(0))
     }
 
-    fn keeps_limits(body: &[u8], place: u16) -> bool {
-        let head = Self::read(body, place);
-        if head.cells < 1
-            || head.cells > 64
-            || head.floor > head.ceiling
-            || head.ceiling > MOST_CEILING
-        {
-            return false;
+    #[tactic(auto, using(crate::proofs::Fields::length_terms))]
+    fn keeps_limits(at: Spot<'_>) -> bool {
+        let head = Self::read(at);
+        (1..=MOST_LISTED).contains(&head.cells)
+            && head.floor <= head.ceiling
+            && head.ceiling <= MOST_CEILING
+            && weights_keep(at, head.cells)
+    }
+
+    #[tactic(auto, using(crate::proofs::Fields::length_cells))]
+    fn arity(at: Spot<'_>) -> usize {
+        usize::from(at.u16(0))
+    }
+
+    #[tactic(auto, using(crate::proofs::Fields::length_cells, crate::proofs::Fields::get_or_cells, std::proofs::lemmas::List::get_or_past))]
+    fn name(at: Spot<'_>, index: usize) -> u16 {
+        if index < usize::from(at.u16(0)) {
+            at.u16(Self::HEAD + 6 * index)
+        } else {
+            0
         }
-        weights_keep(body, usize::from(place) + Self::HEAD, head.cells)
-    }
-
-    fn arity(body: &[u8], place: u16) -> usize {
-        usize::from(Self::read(body, place).cells)
-    }
-
-    fn name(body: &[u8], place: u16, index: usize) -> u16 {
-        u16_at(body, usize::from(place) + Self::HEAD + 6 * index)
     }
 }
 

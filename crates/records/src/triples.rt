@@ -1,16 +1,41 @@
 // Triples: union, intersection, union-plus of three cells, and subset of two.
-ghost use Rattle.std.specs.Prelude.{◌+◌};
+ghost use Rattle.std.specs.Prelude.{◌≡◌, ◌+◌, Some, None, MatchResult};
 ghost use Rattle.records.specs.Bytes.{number};
 ghost use Rattle.records.specs.Forms.{triples_form};
+ghost use Rattle.records.specs.Kinds.{triple_kind};
 
 use crate::body::BodyKind;
-use crate::bytes::u16_at;
-use crate::kind::Kind;
-
-const SUBSET: u16 = 4;
+use crate::bytes::Spot;
+use crate::kind::{Kind, Unknown};
 
 const NO_CELL: u16 = 65535;
 
+// How the third cell of a triple comes from the first two; a subset has no third.
+#[derive(Clone, Copy, PartialEq, Eq, Debug)]
+pub enum TripleKind {
+    Union,
+    Intersection,
+    UnionPlus,
+    Subset,
+}
+
+impl TryFrom<u16> for TripleKind {
+    type Error = Unknown;
+
+    ghost try_from_gives = { λ n r. MatchResult r (λ kind. triple_kind n ≡ Some kind) (λ _. triple_kind n ≡ None) };
+
+    fn try_from(number: u16) -> Result<TripleKind, Unknown> {
+        match number {
+            1 => Ok(TripleKind::Union),
+            2 => Ok(TripleKind::Intersection),
+            3 => Ok(TripleKind::UnionPlus),
+            4 => Ok(TripleKind::Subset),
+            _ => Err(Unknown),
+        }
+    }
+}
+
+// Kept: the kind is the number as written, since a record is read before its fields are known to keep their limits.
 #[derive(Clone, Copy)]
 pub struct TripleRecord {
     pub kind: u16,
@@ -34,43 +59,42 @@ impl BodyKind for Triples {
         Kind::Triples
     }
 
-    fn read(body: &[u8], place: u16) -> TripleRecord {
-        let at = usize::from(place);
+    fn read(at: Spot<'_>) -> TripleRecord {
         TripleRecord {
-            kind: u16_at(body, at),
-            a: u16_at(body, at + 2),
-            b: u16_at(body, at + 4),
-            c: u16_at(body, at + 6),
+            kind: at.u16(0),
+            a: at.u16(2),
+            b: at.u16(4),
+            c: at.u16(6),
         }
     }
 
-    fn size(_body: &[u8], _place: u16) -> usize {
+    fn size(_at: Spot<'_>) -> usize {
         Self::HEAD
     }
 
-    fn keeps_limits(body: &[u8], place: u16) -> bool {
-        let triple = Self::read(body, place);
-        if triple.kind == SUBSET {
-            triple.c == NO_CELL
-        } else {
-            1 <= triple.kind && triple.kind < SUBSET
+    fn keeps_limits(at: Spot<'_>) -> bool {
+        let triple = Self::read(at);
+        match TripleKind::try_from(triple.kind) {
+            Ok(TripleKind::Subset) => triple.c == NO_CELL,
+            Ok(_) => true,
+            Err(Unknown) => false,
         }
     }
 
-    fn arity(body: &[u8], place: u16) -> usize {
-        if Self::read(body, place).kind == SUBSET {
-            2
-        } else {
-            3
+    fn arity(at: Spot<'_>) -> usize {
+        match TripleKind::try_from(Self::read(at).kind) {
+            Ok(TripleKind::Subset) => 2,
+            _ => 3,
         }
     }
 
-    fn name(body: &[u8], place: u16, index: usize) -> u16 {
-        let triple = Self::read(body, place);
+    fn name(at: Spot<'_>, index: usize) -> u16 {
+        let triple = Self::read(at);
         match index {
             0 => triple.a,
             1 => triple.b,
-            _ => triple.c,
+            2 if Self::arity(at) == 3 => triple.c,
+            _ => 0,
         }
     }
 }

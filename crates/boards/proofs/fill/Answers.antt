@@ -1,26 +1,33 @@
-use Rattle.std.proofs.Common.{◌≡◌, ℕ, ◌+◌, [], ◌∷◌, ◌++◌, length, take, drop, set, sym, ap, ◌∙◌, arith}
-use Rattle.std.proofs.lemmas.List.{take_more, take_more_set, take_all, drop-set-lt}
+use Rattle.std.proofs.Common.{◌≡◌, [], ◌∷◌, ◌++◌, length, take, drop, sym, ap, ◌∙◌, arith}
+use Rattle.std.proofs.lemmas.List.{take_more, take_more_set, take_all, length-take-le, take-append-le, drop_at}
 use Rattle.bounds.specs.Boards.{none_row}
 use Rattle.boards.specs.Opening.{job_rows}
+use Rattle.boards.proofs.Opened.{rows_counted}
 use Rattle.boards.proofs.fill.Goals as goal
+
+pub slice_bounds-bounds-items-end-2 : goal.slice_bounds-bounds-items-end-2
+slice_bounds-bounds-items-end-2 c = sym (length-take-le c.from.result c.args.rows.now (omega (arith, rows_counted c.args.job.now)))
 
 pub loop-number-preserved : goal.loop-number-preserved
 loop-number-preserved c =
     let a = job_rows c.args.job.now in
     let i = c.loop-number.number in
-    let r = c.row.result in
-    let (front, past) = c.loop-number.invariant in
-    let here = ap (λ (k : ℕ). set c.loop-number.rows k r) c.from.ensures in (
-      ap (take (i + 1)) here ∙ take_more_set c.loop-number.rows i r (omega arith) ∙ ap (λ x. x ++ r ∷ []) front
-          ∙ ap (λ x. take i a ++ x ∷ []) c.row.ensures ∙ sym (take_more a i none_row (omega arith)),
-      ap (drop (length a)) here ∙ drop-set-lt (length a) c.loop-number.rows i r (omega arith) ∙ past,
-    )
+    take_more_set c.loop-number.bounds-items i c.row.result (omega arith) ∙ ap (λ x. x ++ c.row.result ∷ []) c.loop-number.invariant
+    ∙ ap (λ x. take i a ++ x ∷ []) c.row.ensures ∙ sym (take_more a i none_row (omega (arith, rows_counted c.args.job.now, length-take-le c.from.result c.args.rows.now)))
 
-pub returns : goal.returns
-returns c =
+pub returns-clause-front : goal.returns-clause-front
+returns-clause-front c =
     let a = job_rows c.args.job.now in
-    let e : c.loop-number.number ≡ length a = omega arith in
-    record {
-      front = ap (λ n. take n c.loop-number.rows) (sym e) ∙ c.loop-number.invariant.0 ∙ take_all c.loop-number.number a (omega arith);
-      past = c.loop-number.invariant.1;
-    }
+    let n = rows_counted c.args.job.now in
+    let k = length-take-le c.from.result c.args.rows.now (omega (arith, n)) in
+    let e : c.loop-number.number ≡ length a = omega (arith, n) in
+    take-append-le (length a) c.loop-number.bounds-items (drop c.from.result c.args.rows.now) (omega (arith, n))
+    ∙ ap (λ m. take m c.loop-number.bounds-items) (sym e) ∙ c.loop-number.invariant ∙ take_all c.loop-number.number a (omega arith)
+
+pub returns-clause-past : goal.returns-clause-past
+returns-clause-past c =
+    let a = job_rows c.args.job.now in
+    let n = rows_counted c.args.job.now in
+    let k = length-take-le c.from.result c.args.rows.now (omega (arith, n)) in
+    let e : c.from.result ≡ length a = omega (arith, n) in
+    drop_at c.loop-number.bounds-items (drop c.from.result c.args.rows.now) (length a) (omega (arith, n)) ∙ ap (λ m. drop m c.args.rows.now) e

@@ -1,7 +1,6 @@
-use Rattle.std.proofs.Common.{◌≡◌, length, take, drop}
+use Rattle.std.proofs.Common.{◌≡◌, take}
 use Rattle.boards.specs.Opening.{job_rows}
 use Rattle.boards.proofs.fill.Given as goal
 
 abbrev pub invariant-loop-number : goal.invariant-loop-number
-invariant-loop-number l = let job = job_rows l.job in
-    (take l.number l.rows ≡ take l.number job) × (drop (length job) l.rows ≡ drop (length job) l.initial.rows)
+invariant-loop-number l = take l.number l.bounds-items ≡ take l.number (job_rows l.job)

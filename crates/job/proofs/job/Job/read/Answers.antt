@@ -5,9 +5,7 @@ use Rattle.job.proofs.Telling.{refusals_told}
 use Rattle.job.proofs.Whole.{found_again, never_refused}
 use Rattle.job.proofs.job.Job.read.Goals as goal
 
-pub returns : goal.returns
-returns c = let f = c.args.file.now in record {
-  reading = c.scan.ensures;
-  meaning = MatchResult-weaker c.scan.result c.scan.ensures (λ j h. found_again f (job_found j) h.1)
-      (λ e h. (refusals_told f (of_job e) h, never_refused f (of_job e) h));
-}
+pub returns-clause-meaning : goal.returns-clause-meaning
+returns-clause-meaning c = let f = c.args.file.now in
+    MatchResult-weaker c.scan.result c.scan.ensures (λ j h. found_again f (job_found j) h.1)
+    (λ e h. (refusals_told f (of_job e) h, never_refused f (of_job e) h))

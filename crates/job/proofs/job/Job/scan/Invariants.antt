@@ -1,5 +1,6 @@
+use Rattle.std.proofs.Common.{◌≡◌}
 use Rattle.job.proofs.Gathering.{Gathering}
 use Rattle.job.proofs.job.Job.scan.Given as goal
 
-abbrev pub invariant-loop-i : goal.invariant-loop-i
-invariant-loop-i l = Gathering l.file l.contents.count l.i l.tally l.places
+abbrev pub invariant-loop-entry : goal.invariant-loop-entry
+invariant-loop-entry l = let e = l.entry-iterator in (e.file.now ≡ l.file) × Gathering l.file e.count e.given l.tally l.places

@@ -1,9 +1,0 @@
-use Rattle.std.proofs.Common.{◌+◌, ◌-◌, length}
-use Rattle.job.proofs.Walks.{Walking}
-use Rattle.job.proofs.walk.walk.Given as goal
-
-abbrev pub invariant-records : goal.invariant-records
-invariant-records g l = Walking g.K.BodyKind.form l.start l.cells l.body l.first l.initial.places l.places l.number l.at
-
-abbrev pub decreases-records : goal.decreases-records
-decreases-records g l = (length l.body + 1) - l.at

@@ -1,6 +1,0 @@
-use Rattle.std.proofs.Common.{sym, arith}
-use Rattle.records.proofs.Numbers.{number_past}
-use Rattle.records.proofs.bytes.u32_at.Goals as goal
-
-pub returns-then-place-file : goal.returns-then-place-file
-returns-then-place-file c = sym (number_past 4 c.args.file.now c.args.place (omega arith))
