@@ -1,2 +1,1 @@
 pub mod Closed
-pub mod Pairs

@@ -1,13 +1,18 @@
 // A mirror as a rule that names its two cells.
-ghost use Rattle.house.specs.Mirrors.{mirror_rule};
+ghost use Rattle.std.specs.Prelude.{refl};
+ghost use Rattle.std.proofs.Common.{lit≤};
+ghost use Rattle.bounds.proofs.Lifted.{exact_on_laws};
+ghost use Rattle.house.specs.Mirrors.{alike, scope_of, mirror_rule};
 
 use crate::mirror::Mirror;
 use bounds::row::Row;
+use bounds::scope::Scope;
 use rule_families::change::Change;
+use rules::arrays::{array_of, written};
 use rules::named::Named;
 
-impl Named for Mirror {
-    ghost scoped = { mirror_rule };
+impl Scope for Mirror {
+    ghost scope = { scope_of };
 
     fn arity(&self) -> usize {
         2
@@ -16,16 +21,18 @@ impl Named for Mirror {
     fn cell(&self, i: usize) -> usize {
         usize::from(if i == 0 { self.left } else { self.right })
     }
+}
+
+impl Named for Mirror {
+    ghost scoped = { mirror_rule };
+
+    ghost lawful = { λ m. exact_on_laws (scope_of m) (alike m.most) };
+
+    ghost names_them = { λ m. refl };
+
+    ghost few = { λ m. lit≤ tt };
 
     fn narrow_own(&self, own: &mut [Row]) -> Change {
-        let Some((left, right)) = self.narrowed(own[0], own[1]) else {
-            return Change::Void;
-        };
-        if left == own[0] && right == own[1] {
-            return Change::Quiet;
-        }
-        own[0] = left;
-        own[1] = right;
-        Change::Narrowed
+        written(own, self.narrowed(array_of(own)))
     }
 }

@@ -1,13 +1,13 @@
 // The house's mirrors beside a job's triples: settled, tried and sought.
-use crate::family::Mirrors;
+use crate::family::{Mirrors, mirrors};
 use crate::mirror::Mirror;
 use board::board::Board;
 use bounds::row::Row;
 use rule_families::beside::Beside;
 use rule_families::change::Change;
 use rule_families::family::Family;
+use rules::numbered::Rules;
 use search::seek::seek;
-use search::sought::Sought;
 use settling::settled::Settled;
 use std::test::Fail;
 use triples::family::Triples;
@@ -38,30 +38,22 @@ const START: [Row; 3] = [
     Row { low: 12, high: 12 },
 ];
 
-const NONE: Row = Row { low: 0, high: 0 };
-
 fn rules() -> Beside<Triples<'static>, Mirrors<'static>> {
     Beside {
-        first: Triples {
-            file: &FILE,
-            places: &PLACES,
-        },
-        second: Mirrors { mirrors: &MIRRORS },
+        first: Triples::at(&FILE, &PLACES),
+        second: mirrors(&MIRRORS),
     }
 }
 
 fn start(rt: &HostRuntime) -> Result<Board, Fail> {
     let rows = START.to_vec(rt.alloc())?;
-    let saved = vec![in rt.alloc(); NONE; 48]?;
-    match Board::over(rows, saved, 3) {
-        Ok(board) => Ok(board),
-        Err(_) => Err(Fail::new("no board")),
-    }
+    let saved = vec![in rt.alloc(); Row::default(); 48]?;
+    Board::over(rows, saved, 3).map_err(|_| Fail::new("no board"))
 }
 
 #[test]
 fn a_mirror_narrows_both_sides(rt: HostRuntime) {
-    let mirrors = Mirrors { mirrors: &MIRRORS };
+    let mirrors = Rules(MIRRORS.as_slice());
     let mut rows = [
         Row { low: 0, high: 4 },
         Row { low: 5, high: 9 },
@@ -87,7 +79,7 @@ fn a_mirror_narrows_both_sides(rt: HostRuntime) {
 
 #[test]
 fn rows_too_far_apart_are_void(rt: HostRuntime) {
-    let mirrors = Mirrors { mirrors: &MIRRORS };
+    let mirrors = mirrors(&MIRRORS);
     let mut rows = [
         Row { low: 0, high: 2 },
         Row { low: 5, high: 9 },
@@ -101,8 +93,8 @@ fn rows_too_far_apart_are_void(rt: HostRuntime) {
 fn settles_beside_triples(rt: HostRuntime) -> Result<(), Fail> {
     let mut board = start(&rt)?;
     assert_eq!(rt; board.settle(&rules()), Settled::Settled(2));
-    assert_eq!(rt; board.ask(0)?.to_row(), Row { low: 4, high: 6 });
-    assert_eq!(rt; board.ask(1)?.to_row(), Row { low: 6, high: 8 });
+    assert_eq!(rt; Row::from(board.ask(0)?), Row { low: 4, high: 6 });
+    assert_eq!(rt; Row::from(board.ask(1)?), Row { low: 6, high: 8 });
     Ok(())
 }
 
@@ -117,8 +109,8 @@ fn a_trial_is_taken_back(rt: HostRuntime) -> Result<(), Fail> {
     board.drop(slip)?;
     tightened?;
     assert_eq!(rt; settled, Settled::Settled(1));
-    assert_eq!(rt; tried?.to_row(), Row { low: 6, high: 6 });
-    assert_eq!(rt; board.ask(0)?.to_row(), Row { low: 4, high: 6 });
+    assert_eq!(rt; Row::from(tried?), Row { low: 6, high: 6 });
+    assert_eq!(rt; Row::from(board.ask(0)?), Row { low: 4, high: 6 });
     Ok(())
 }
 
@@ -126,11 +118,8 @@ fn a_trial_is_taken_back(rt: HostRuntime) -> Result<(), Fail> {
 fn the_first_plan_has_them_near(rt: HostRuntime) -> Result<(), Fail> {
     let board = start(&rt)?;
     let mut plan = [0; 3];
-    let mut scratch = [NONE; 12];
-    assert_eq!(rt;
-        seek(&board, &rules(), &mut plan, &mut scratch)?,
-        Sought::Plan
-    );
+    let mut scratch = [Row::default(); 12];
+    assert!(rt; seek(&board, &rules(), &mut plan, &mut scratch)?);
     assert_eq!(rt; plan, [5, 7, 12]);
     Ok(())
 }

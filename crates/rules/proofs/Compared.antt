@@ -1,5 +1,6 @@
 -- What `==` on rows tells.
-use Rattle.std.proofs.Common.{◌≡◌, Bool, true, false, ◌&&◌, not, eqb, Decides, refl, ap}
+use Rattle.std.proofs.Common.{◌≡◌, Bool, true, false, ◌&&◌, not, eqb, List, Decides, refl, ap}
+use Rattle.std.specs.Cmp.Lexicographic.{pointwise, pointwise_decides}
 use Rattle.std.proofs.lemmas.Bool.{true≢false, false≢true}
 use Rattle.std.proofs.lemmas.Bool.Decides.{Decides-at, Decides-like, Decides-and, Decides-eqb}
 use Rattle.bounds.specs.declared.row.Row.{Row}
@@ -24,3 +25,7 @@ module _ (r s : Row) where
   pub rows_agree : (x : Bool) → Compared x → false ≡ not x → r ≡ s
   rows_agree true h e = (compared_decides true h).0 refl
   rows_agree false h e = absurd (false≢true e)
+
+-- and on lists of them
+pub rows_decided : (xs ys : List Row) (r : Bool) → (r ≡ pointwise same_row_test xs ys) → Decides r (xs ≡ ys)
+rows_decided xs ys r e = Decides-at r _ e (pointwise_decides (λ a b. compared_decides a b _ refl) xs ys)

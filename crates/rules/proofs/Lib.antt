@@ -1,2 +1,5 @@
 pub mod Compared
 pub mod Answered
+pub mod Few
+pub mod Rows
+pub mod Reached

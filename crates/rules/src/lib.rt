@@ -1,3 +1,6 @@
 #![tactic(auto)]
 
+pub mod arrays;
 pub mod named;
+pub mod numbered;
+pub mod recorded;

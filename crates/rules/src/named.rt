@@ -1,10 +1,11 @@
 // Rules that name their cells one by one.
-ghost use Rattle.std.specs.Prelude.{◌≡◌, ◌<◌, ◌≤◌, true, false, ◌≢◌, length, slice_index};
-ghost use Rattle.bounds.specs.Boards.{sound, none_row};
-ghost use Rattle.bounds.specs.Scoped.{Scoped, fits, names, gather, scatter, on_board};
+ghost use Rattle.std.specs.Prelude.{◌≡◌, ◌≤◌, true, length};
+ghost use Rattle.bounds.specs.Boards.{cells, sound, none_row};
+ghost use Rattle.bounds.specs.Scoped.{Scoped, ScopedLaws, fits, gather, scatter, on_board};
 ghost use Rattle.rule_families.specs.Narrows.{Narrows};
 
 use bounds::row::Row;
+use bounds::scope::{Scope, fits, names};
 use rule_families::change::Change;
 
 // The most cells that a rule names: a plate's slots, its variety and 64 counts.
@@ -13,54 +14,28 @@ pub const MOST_NAMED: usize = 66;
 // Most rules name so few, and do not pay for the room that a plate needs.
 const FEW_NAMED: usize = 4;
 
-const UNREAD: Row = Row { low: 0, high: 0 };
-
-pub trait Named {
+pub trait Named: Scope {
     ghost scoped: { Self → Scoped };
 
-    // How many cells the rule names.
-    fn arity(&self) -> usize
-        ensures value { result ≡ length (scoped self.now).scope }
-        ensures bound { result ≤ 66 };
-
-    fn cell(&self, i: usize) -> usize
-        requires { i < length (scoped self.now).scope }
-        ensures { result ≡ slice_index (scoped self.now).scope i };
+    ghost lawful: { (r : Self) → ScopedLaws (scoped r) };
 
     // Narrows the rows of the cells that the rule names, in its order; on void they stay as they were.
     fn narrow_own(&self, own: &mut [Row]) -> Change
         requires own { length own.old ≡ length (scoped self.now).scope }
         requires sound { sound own.old ≡ true }
         ensures { Narrows (scoped self.now).narrowing own.old own.new result };
+
+    // Its cells are those of the scope, and not too many.
+    ghost names_them: { (r : Self) → Self.scope r ≡ (scoped r).scope };
+
+    ghost few: { (r : Self) → length (scoped r).scope ≤ 66 };
 }
 
 // Whether the rule, on a board of so many cells, touches the cell.
 pub fn touches<R: Named>(rule: &R, cells: usize, cell: usize) -> bool
     ensures { result ≡ (on_board (R.scoped rule.now)).touches cells cell }
 {
-    fits_in(rule, cells) && names_cell(rule, cell)
-}
-
-fn fits_in<R: Named>(rule: &R, cells: usize) -> bool
-    ensures { result ≡ fits (R.scoped rule.now).scope cells }
-{
-    for i in 0..rule.arity() {
-        if rule.cell(i) >= cells {
-            return false;
-        }
-    }
-    true
-}
-
-fn names_cell<R: Named>(rule: &R, cell: usize) -> bool
-    ensures { result ≡ names (R.scoped rule.now).scope cell }
-{
-    for i in 0..rule.arity() {
-        if rule.cell(i) == cell {
-            return true;
-        }
-    }
-    false
+    names(rule, 0, cell) && fits(rule, cells)
 }
 
 // Narrows the rows of the named cells; a rule that names a missing cell leaves every board as it is.
@@ -68,97 +43,76 @@ pub fn narrow<R: Named>(rule: &R, rows: &mut [Row]) -> Change
     requires { sound rows.old ≡ true }
     ensures { Narrows (on_board (R.scoped rule.now)).narrowed rows.old rows.new result }
 {
-    let arity = rule.arity();
-    if arity <= FEW_NAMED {
-        let mut own = [UNREAD; FEW_NAMED];
-        let mut before = [UNREAD; FEW_NAMED];
-        narrow_through(rule, rows, &mut own[0..arity], &mut before[0..arity])
+    if !fits(rule, rows.len()) {
+        return Change::Quiet;
+    }
+    if rule.arity() <= FEW_NAMED {
+        narrow_in::<R, FEW_NAMED>(rule, rows)
     } else {
-        let mut own = [UNREAD; MOST_NAMED];
-        let mut before = [UNREAD; MOST_NAMED];
-        narrow_through(rule, rows, &mut own[0..arity], &mut before[0..arity])
+        narrow_in::<R, MOST_NAMED>(rule, rows)
     }
 }
 
-// The same by way of room for the rows of the named cells and for what they were.
-fn narrow_through<R: Named>(
-    rule: &R,
-    rows: &mut [Row],
-    own: &mut [Row],
-    before: &mut [Row],
-) -> Change
-    requires own { length own.old ≡ length (R.scoped rule.now).scope }
-    requires before { length before.old ≡ length (R.scoped rule.now).scope }
+// The same in room for N rows.
+// Kept: the rows stand at the front of room on the stack, since settling takes no heap.
+#[tactic(auto, using(bounds::proofs::Lifted::own_sound, bounds::proofs::Lifted::lifted_quiet))]
+fn narrow_in<R: Named, const N: usize>(rule: &R, rows: &mut [Row]) -> Change
+    requires room { length (R.scoped rule.now).scope ≤ N }
+    requires few { N ≤ 66 }
+    requires whole { fits (R.scoped rule.now).scope (length rows.old) ≡ true }
     requires sound { sound rows.old ≡ true }
     ensures { Narrows (on_board (R.scoped rule.now)).narrowed rows.old rows.new result }
 {
-    if !gathered(rule, rows, own) {
-        return Change::Quiet;
-    }
+    let mut room = [Row::default(); N];
+    let own = &mut room[..rule.arity()];
+    gathered(rule, rows, own);
     match rule.narrow_own(own) {
-        Change::Quiet => Change::Quiet,
-        Change::Void => Change::Void,
-        Change::Narrowed => {
-            if written_back(rule, rows, own, before) {
-                Change::Narrowed
-            } else {
-                Change::Quiet
-            }
-        }
+        Change::Narrowed => written_back::<R, N>(rule, rows, own),
+        unchanged => unchanged,
     }
 }
 
-// Writes the rows to the named cells. False if the board is what it was: a cell that is named twice may get its row again.
-fn written_back<R: Named>(rule: &R, rows: &mut [Row], own: &[Row], before: &mut [Row]) -> bool
-    requires own { length own.now ≡ length (R.scoped rule.now).scope }
-    requires before { length before.old ≡ length (R.scoped rule.now).scope }
-    requires whole { fits (R.scoped rule.now).scope (length rows.old) ≡ true }
-    ensures written { rows.new ≡ scatter (R.scoped rule.now).scope own.now rows.old }
-    ensures same { result ≡ false → rows.new ≡ rows.old }
-    ensures differs { result ≡ true → rows.new ≢ rows.old }
+// Writes the rows to the named cells, and gathers them again. The board may be what it was: a cell that is named twice may get its row back.
+fn written_back<R: Scope, const N: usize>(rule: &R, rows: &mut [Row], own: &mut [Row]) -> Change
+    requires own { length own.old ≡ length (R.scope rule.now) }
+    requires room { length own.old ≤ N }
+    requires few { N ≤ 66 }
+    requires whole { fits (R.scope rule.now) (length rows.old) ≡ true }
+    ensures { Narrows (λ _. cells (scatter (R.scope rule.now) own.old rows.old)) rows.old rows.new result }
 {
+    let mut room = [Row::default(); N];
+    let before = &mut room[..own.len()];
     gathered(rule, rows, before);
     scattered(rule, rows, own);
-    changed(rule, rows, before)
-}
-
-// Copies the rows of the named cells; false if one of them is missing.
-fn gathered<R: Named>(rule: &R, rows: &[Row], own: &mut [Row]) -> bool
-    requires { length own.old ≡ length (R.scoped rule.now).scope }
-    ensures whole { result ≡ fits (R.scoped rule.now).scope (length rows.now) }
-    ensures copied { result ≡ true → own.new ≡ gather none_row (R.scoped rule.now).scope rows.now }
-{
-    for i in 0..own.len() {
-        let cell = rule.cell(i);
-        if cell >= rows.len() {
-            return false;
-        }
-        own[i] = rows[cell];
-    }
-    true
-}
-
-fn scattered<R: Named>(rule: &R, rows: &mut [Row], own: &[Row])
-    requires own { length own.now ≡ length (R.scoped rule.now).scope }
-    requires whole { fits (R.scoped rule.now).scope (length rows.old) ≡ true }
-    ensures { rows.new ≡ scatter (R.scoped rule.now).scope own.now rows.old }
-{
-    for i in 0..own.len() {
-        rows[rule.cell(i)] = own[i];
+    gathered(rule, rows, own);
+    if *own == *before {
+        Change::Quiet
+    } else {
+        Change::Narrowed
     }
 }
 
-// Whether a named row is not what it was.
-fn changed<R: Named>(rule: &R, rows: &[Row], before: &[Row]) -> bool
-    requires own { length before.now ≡ length (R.scoped rule.now).scope }
-    requires whole { fits (R.scoped rule.now).scope (length rows.now) ≡ true }
-    ensures same { result ≡ false → before.now ≡ gather none_row (R.scoped rule.now).scope rows.now }
-    ensures differs { result ≡ true → before.now ≢ gather none_row (R.scoped rule.now).scope rows.now }
+// Copies the rows of the named cells.
+// Kept: the rule, the board's rows and the rule's own are lent apart, as each of the three calls writes another of them.
+#[tactic(auto, using(bounds::proofs::Scopes::fits_at, bounds::proofs::Scopes::at_gather))]
+fn gathered<R: Scope>(rule: &R, rows: &[Row], own: &mut [Row])
+    requires own { length own.old ≡ length (R.scope rule.now) }
+    requires whole { fits (R.scope rule.now) (length rows.now) ≡ true }
+    ensures { own.new ≡ gather none_row (R.scope rule.now) rows.now }
 {
-    for i in 0..before.len() {
-        if rows[rule.cell(i)] != before[i] {
-            return true;
-        }
+    for (i, row) in own.iter_mut().enumerate() {
+        *row = rows[rule.cell(i)];
     }
-    false
+}
+
+// And writes them.
+#[tactic(auto, using(bounds::proofs::Scopes::fits_at, bounds::proofs::Scopes::scatter_more))]
+fn scattered<R: Scope>(rule: &R, rows: &mut [Row], own: &[Row])
+    requires own { length own.now ≡ length (R.scope rule.now) }
+    requires whole { fits (R.scope rule.now) (length rows.old) ≡ true }
+    ensures { rows.new ≡ scatter (R.scope rule.now) own.now rows.old }
+{
+    for (i, row) in own.iter().enumerate() {
+        rows[rule.cell(i)] = *row;
+    }
 }

@@ -1,29 +1,20 @@
 -- The narrowed rows of each kind in closed form, and that they are exact.
-use Rattle.std.proofs.Common.{◌≡◌, ℕ, zero, suc, ◌+◌, ◌-◌, ◌<◌, ◌≤◌, min, max, Bool, true, cond, ◌⊎◌, List, [], ◌∷◌, refl, ap, inl, inr, arith}
+use Rattle.std.proofs.Common.{◌≡◌, ℕ, zero, suc, ◌+◌, ◌-◌, ◌<◌, ◌≤◌, min, max, Bool, true, cond, ◌⊎◌, List, [], ◌∷◌, refl, inl, inr, arith}
 use Rattle.std.proofs.lemmas.Bool.{leb-true, le-leb, cases_lt}
 use Rattle.bounds.specs.declared.row.Row.{Row}
 use Rattle.bounds.specs.Boards.{void, cells, sound, Fills}
-use Rattle.bounds.specs.Cells.{common}
 use Rattle.bounds.specs.Exact.{exact}
 use Rattle.bounds.proofs.Places.{sound_at}
 use Rattle.bounds.proofs.Hulls.{Meeting}
 use Rattle.triples.specs.Triples.{relation}
-use Rattle.triples.specs.declared.kind.TripleKind.TheVariants.{Union, Intersection, UnionPlus, Subset}
-use Rattle.triples.proofs.Frames.{In, Reached, exact_reached, three, Sound, Narrowed, exact_three}
-
-abbrev pub two : {A : Type 0} → A → A → List A
-two x y = x ∷ (y ∷ [])
+use Rattle.records.specs.declared.triples.TripleKind.TheVariants.{Union, Intersection, UnionPlus, Subset}
+use Rattle.rules.proofs.Rows.{two, three, Cut}
+use Rattle.rules.proofs.Reached.{In, Reached, exact_reached}
+use Rattle.triples.proofs.Frames.{Sound, Narrowed, exact_three}
 
 -- r is u where x is below y, and else v
 abbrev pub IfBelow : ℕ → ℕ → ℕ → ℕ → ℕ → Type 0
 IfBelow x y r u v = ((x < y) × (r ≡ u)) ⊎ ((y ≤ x) × (r ≡ v))
-
--- the bounds of g are those of a, cut to l and h
-abbrev pub Cut : Row → Row → ℕ → ℕ → Type 0
-Cut g a l h = (g.low ≡ max a.low l) × (g.high ≡ min a.high h)
-
-pub cut_is : (g a : Row) (l h : ℕ) → g ≡ common a l h → Cut g a l h
-cut_is g a l h e = (ap (λ r. r.low) e, ap (λ r. r.high) e)
 
 cut_sound : (g a : Row) (l h : ℕ) → Cut g a l h → g.low ≤ g.high → a.low ≤ a.high
 cut_sound g a l h u s = omega arith

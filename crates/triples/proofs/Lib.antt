@@ -1,5 +1,2 @@
 pub mod Frames
 pub mod Closed
-pub mod Arrays
-pub mod Same
-pub mod Boards

@@ -5,7 +5,7 @@ use Rattle.bounds.specs.Boards.{Board, cells}
 use Rattle.bounds.specs.Exact.{exact}
 use Rattle.bounds.specs.Scoped.{on_board}
 use Rattle.triples.specs.Triples.{relation, triple_rule}
-use Rattle.triples.specs.declared.kind.TripleKind.TheVariants.{Union, UnionPlus}
+use Rattle.records.specs.declared.triples.TripleKind.TheVariants.{Union, UnionPlus}
 
 abbrev pub row : ℕ → ℕ → Row
 row low high = record { low = low; high = high }

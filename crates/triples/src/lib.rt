@@ -1,7 +1,6 @@
 #![tactic(auto)]
 
 pub mod family;
-pub mod kind;
 pub mod named;
 pub mod narrowing;
 #[cfg(test)]

@@ -1,48 +1,21 @@
 // A triple as a rule that names its cells.
-ghost use Rattle.std.specs.Prelude.{◌≡◌, length};
-ghost use Rattle.rule_families.specs.Narrows.{Narrows};
-ghost use Rattle.triples.specs.Triples.{rule_of, board_of};
+ghost use Rattle.std.specs.Prelude.{refl};
+ghost use Rattle.bounds.proofs.Lifted.{exact_on_laws};
+ghost use Rattle.triples.specs.Triples.{relation, scope, rule_of, few_named};
 
-use crate::kind::TripleKind;
 use crate::narrowing;
 use crate::triple::Triple;
 use bounds::row::Row;
+use bounds::scope::Scope;
+use records::triples::TripleKind;
 use rule_families::change::Change;
+use rules::arrays::{array_of, written};
 use rules::named::Named;
 
-fn two(own: &[Row]) -> [Row; 2]
-    requires { length own.now ≡ 2 }
-    ensures { result ≡ own.now }
-{
-    [own[0], own[1]]
-}
+impl Scope for Triple {
+    ghost scope = { λ t. (rule_of t).scope };
 
-fn three(own: &[Row]) -> [Row; 3]
-    requires { length own.now ≡ 3 }
-    ensures { result ≡ own.now }
-{
-    [own[0], own[1], own[2]]
-}
-
-// Writes the narrowed rows over the triple's own.
-fn written<const N: usize>(own: &mut [Row], narrowed: Option<[Row; N]>) -> Change
-    requires { length own.old ≡ N }
-    ensures { Narrows (λ _. board_of narrowed.entry) own.old own.new result }
-{
-    let Some(rows) = narrowed else {
-        return Change::Void;
-    };
-    let before: &[Row] = own;
-    if before == rows.as_slice() {
-        return Change::Quiet;
-    }
-    own.copy_from_slice(&rows);
-    Change::Narrowed
-}
-
-impl Named for Triple {
-    ghost scoped = { rule_of };
-
+    // Kept: this and the next say of a kind that is known what the record says of a number.
     fn arity(&self) -> usize {
         match self.kind {
             TripleKind::Subset => 2,
@@ -57,13 +30,24 @@ impl Named for Triple {
             _ => self.c,
         })
     }
+}
+
+impl Named for Triple {
+    ghost scoped = { rule_of };
+
+    ghost lawful = { λ t. exact_on_laws (scope t.kind t.a t.b t.c) (relation t.kind) };
+
+    ghost names_them = { λ t. refl };
+
+    ghost few = { λ t. few_named t.kind t.a t.b t.c };
 
     fn narrow_own(&self, own: &mut [Row]) -> Change {
+        // Kept: a subset takes two rows and the others three, so that no one closure or pointer type stands for the four.
         match self.kind {
-            TripleKind::Union => written(own, narrowing::union(three(own))),
-            TripleKind::Intersection => written(own, narrowing::intersection(three(own))),
-            TripleKind::UnionPlus => written(own, narrowing::union_plus(three(own))),
-            TripleKind::Subset => written(own, narrowing::subset(two(own))),
+            TripleKind::Union => written(own, narrowing::union(array_of(own))),
+            TripleKind::Intersection => written(own, narrowing::intersection(array_of(own))),
+            TripleKind::UnionPlus => written(own, narrowing::union_plus(array_of(own))),
+            TripleKind::Subset => written(own, narrowing::subset(array_of(own))),
         }
     }
 }

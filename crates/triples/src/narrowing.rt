@@ -1,53 +1,36 @@
 // The exact narrowing of the rows that a triple of each kind ties together; None where no filling of them meets it.
-ghost use Rattle.std.specs.Prelude.{◌≡◌, ◌≤◌, if◌then◌else◌};
-ghost use Rattle.bounds.specs.Boards.{void, cells, sound};
+ghost use Rattle.std.specs.Prelude.{◌≡◌, ◌+◌, ◌≤◌, min};
 ghost use Rattle.bounds.specs.Cells.{common};
 ghost use Rattle.bounds.specs.Exact.{exact};
-ghost use Rattle.triples.specs.Triples.{relation, board_of};
+ghost use Rattle.rules.specs.Answers.{board_of};
+ghost use Rattle.triples.specs.Triples.{relation};
 
-use crate::kind::TripleKind;
 use bounds::row::Row;
-
-// The row's counts from low to high.
-fn cut(row: Row, low: u16, high: u16) -> Row
-    ensures value { result ≡ common row low high }
-    ensures fits { row.high ≤ 65535 }
-{
-    Row {
-        low: row.low.max(low),
-        high: row.high.min(high),
-    }
-}
-
-// The rows, if each holds a count.
-fn if_sound<const N: usize>(rows: [Row; N]) -> Option<[Row; N]>
-    ensures { board_of result ≡ (if sound rows.entry then cells rows.entry else void) }
-{
-    for row in &rows {
-        if row.high < row.low {
-            return None;
-        }
-    }
-    Some(rows)
-}
+use records::triples::TripleKind;
+use rules::arrays::if_sound;
 
 // The third is the greater of the first two: where one of them cannot be it, the other must.
 pub fn union(rows: [Row; 3]) -> Option<[Row; 3]>
     ensures { board_of result ≡ exact (relation TripleKind.Union) rows }
 {
     let [a, b, c] = rows;
-    let whole = cut(c, a.low.max(b.low), a.high.max(b.high));
+    let whole = c.common(a.low.max(b.low), a.high.max(b.high));
     let a_low = if b.high < whole.low { whole.low } else { a.low };
     let b_low = if a.high < whole.low { whole.low } else { b.low };
-    if_sound([cut(a, a_low, whole.high), cut(b, b_low, whole.high), whole])
+    if_sound([
+        a.common(a_low, whole.high),
+        b.common(b_low, whole.high),
+        whole,
+    ])
 }
 
-// The third is the lesser of the first two: a union with the order reversed.
+// The third is the lesser of the first two.
+// Kept: a union with the order reversed, where a row turned round and back would say less plainly which bound moves.
 pub fn intersection(rows: [Row; 3]) -> Option<[Row; 3]>
     ensures { board_of result ≡ exact (relation TripleKind.Intersection) rows }
 {
     let [a, b, c] = rows;
-    let whole = cut(c, a.low.min(b.low), a.high.min(b.high));
+    let whole = c.common(a.low.min(b.low), a.high.min(b.high));
     let a_high = if whole.high < b.low {
         whole.high
     } else {
@@ -58,30 +41,30 @@ pub fn intersection(rows: [Row; 3]) -> Option<[Row; 3]>
     } else {
         b.high
     };
-    if_sound([cut(a, whole.low, a_high), cut(b, whole.low, b_high), whole])
+    if_sound([
+        a.common(whole.low, a_high),
+        b.common(whole.low, b_high),
+        whole,
+    ])
 }
 
-// The third is the sum of the first two. A sum may stop at the greatest number: no count is above it.
+// The counts of a row that two others can add up to. A sum may stop at the greatest number: no count is above it.
+fn summed(row: Row, a: Row, b: Row) -> Row
+    ensures value { result ≡ common row (min (a.low + b.low) 65535) (min (a.high + b.high) 65535) }
+    ensures room { row.high ≤ 65535 }
+{
+    row.common(a.low.saturating_add(b.low), a.high.saturating_add(b.high))
+}
+
+// The third is the sum of the first two.
 pub fn union_plus(rows: [Row; 3]) -> Option<[Row; 3]>
     ensures { board_of result ≡ exact (relation TripleKind.UnionPlus) rows }
 {
     let [a, b, c] = rows;
     if_sound([
-        cut(
-            a,
-            c.low.saturating_sub(b.high),
-            c.high.saturating_sub(b.low),
-        ),
-        cut(
-            b,
-            c.low.saturating_sub(a.high),
-            c.high.saturating_sub(a.low),
-        ),
-        cut(
-            c,
-            a.low.saturating_add(b.low),
-            a.high.saturating_add(b.high),
-        ),
+        a.common(c.low.saturating_sub(b.high), c.high.saturating_sub(b.low)),
+        b.common(c.low.saturating_sub(a.high), c.high.saturating_sub(a.low)),
+        summed(c, a, b),
     ])
 }
 
@@ -90,5 +73,5 @@ pub fn subset(rows: [Row; 2]) -> Option<[Row; 2]>
     ensures { board_of result ≡ exact (relation TripleKind.Subset) rows }
 {
     let [a, b] = rows;
-    if_sound([cut(a, 0, b.high), cut(b, a.low, b.high)])
+    if_sound([a.common(0, b.high), b.common(a.low, b.high)])
 }

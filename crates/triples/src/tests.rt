@@ -15,10 +15,7 @@ const PLACES: [u16; 4] = [0, 8, 16, 24];
 
 #[test]
 fn where_one_part_cannot_reach_the_whole_the_other_must(rt: HostRuntime) {
-    let triples = Triples {
-        file: &FILE,
-        places: &PLACES,
-    };
+    let triples = Triples::at(&FILE, &PLACES);
     let mut rows = [
         Row { low: 0, high: 2 },
         Row { low: 3, high: 9 },
@@ -39,10 +36,7 @@ fn where_one_part_cannot_reach_the_whole_the_other_must(rt: HostRuntime) {
 
 #[test]
 fn a_sum_bounds_its_parts(rt: HostRuntime) {
-    let triples = Triples {
-        file: &FILE,
-        places: &PLACES,
-    };
+    let triples = Triples::at(&FILE, &PLACES);
     let mut rows = [
         Row { low: 0, high: 3 },
         Row { low: 2, high: 2 },
@@ -63,10 +57,7 @@ fn a_sum_bounds_its_parts(rt: HostRuntime) {
 
 #[test]
 fn a_sum_out_of_reach_is_void(rt: HostRuntime) {
-    let triples = Triples {
-        file: &FILE,
-        places: &PLACES,
-    };
+    let triples = Triples::at(&FILE, &PLACES);
     let mut rows = [
         Row { low: 0, high: 3 },
         Row { low: 2, high: 2 },
@@ -87,10 +78,7 @@ fn a_sum_out_of_reach_is_void(rt: HostRuntime) {
 
 #[test]
 fn a_subset_has_at_most_the_whole(rt: HostRuntime) {
-    let triples = Triples {
-        file: &FILE,
-        places: &PLACES,
-    };
+    let triples = Triples::at(&FILE, &PLACES);
     let mut rows = [
         Row { low: 1, high: 4 },
         Row { low: 2, high: 6 },
@@ -111,10 +99,7 @@ fn a_subset_has_at_most_the_whole(rt: HostRuntime) {
 
 #[test]
 fn a_record_of_no_kind_is_quiet(rt: HostRuntime) {
-    let triples = Triples {
-        file: &FILE,
-        places: &PLACES,
-    };
+    let triples = Triples::at(&FILE, &PLACES);
     let mut rows = [
         Row { low: 0, high: 3 },
         Row { low: 2, high: 2 },
@@ -135,10 +120,7 @@ fn a_record_of_no_kind_is_quiet(rt: HostRuntime) {
 
 #[test]
 fn a_triple_touches_its_own_cells(rt: HostRuntime) {
-    let triples = Triples {
-        file: &FILE,
-        places: &PLACES,
-    };
+    let triples = Triples::at(&FILE, &PLACES);
     assert_eq!(rt; triples.size(), 4);
     assert!(rt; triples.touches(0, 4, 1));
     assert!(rt; !triples.touches(0, 4, 2));

@@ -1,6 +1,6 @@
 // Two triples worked out: from the definition, from their records on a board of four cells, and by the call.
 ghost use Rattle.std.specs.Prelude.{◌≡◌};
-ghost use Rattle.triples.specs.Triples.{board_of};
+ghost use Rattle.rules.specs.Answers.{board_of};
 ghost use Rattle.triples.specs.Worked.{union_after, plus_after, UnionDefined, UnionRecorded, PlusDefined, PlusRecorded};
 
 use crate::narrowing::{union, union_plus};

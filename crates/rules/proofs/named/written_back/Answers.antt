@@ -1,18 +1,25 @@
 use Rattle.std.proofs.Common.{List, sym, ap, ◌∙◌}
+use Rattle.std.proofs.lemmas.Bool.{both_ways}
 use Rattle.bounds.specs.declared.row.Row.{Row}
-use Rattle.bounds.specs.Boards.{none_row}
+use Rattle.bounds.specs.Boards.{cells, none_row}
 use Rattle.bounds.specs.Scoped.{gather}
 use Rattle.bounds.proofs.Scopes.{scatter_same}
+use Rattle.rules.proofs.Compared.{rows_decided}
 use Rattle.rules.proofs.named.written_back.Goals as goal
 
-pub returns : goal.returns
-returns g c =
-    let cs = (g.R.Named.scoped c.args.rule.now).scope in
+pub returns-then-eq : goal.returns-then-eq
+returns-then-eq g c =
+    let cs = g.R.Scope.scope c.args.rule.now in
     let w = c.scattered.ensures in
-    let first = c.gathered.ensures.copied (c.gathered.ensures.whole ∙ c.requires.whole) in
-    record {
-      written = w;
-      same = λ e. w ∙ sym (scatter_same none_row cs c.args.own.now c.args.rows.now c.requires.own
-          (sym first ∙ c.changed.ensures.same e ∙ ap (λ (x : List Row). gather none_row cs x) w));
-      differs = λ e k. c.changed.ensures.differs e (first ∙ ap (λ (x : List Row). gather none_row cs x) (sym k));
-    }
+    let alike = (rows_decided c.gathered-2.new.own c.gathered.new.own c.eq.result c.eq.ensures).0 c.if-eq.true in
+    let same = w ∙ sym (scatter_same none_row cs c.args.own.now c.args.rows.now c.requires.own
+    (sym c.gathered.ensures ∙ sym alike ∙ c.gathered-2.ensures ∙ ap (λ (x : List Row). gather none_row cs x) w)) in
+    (ap cells (sym w ∙ same), same)
+
+pub returns-else-eq : goal.returns-else-eq
+returns-else-eq g c =
+    let cs = g.R.Scope.scope c.args.rule.now in (
+      ap cells (sym c.scattered.ensures),
+      λ k. both_ways c.eq.result c.if-eq.false ((rows_decided c.gathered-2.new.own c.gathered.new.own c.eq.result c.eq.ensures).1
+          (c.gathered-2.ensures ∙ ap (λ (x : List Row). gather none_row cs x) k ∙ sym c.gathered.ensures)),
+    )

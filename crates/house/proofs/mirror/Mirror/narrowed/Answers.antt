@@ -1,13 +1,13 @@
-use Rattle.std.proofs.Common.{inl, inr, arith}
-use Rattle.house.proofs.Closed.{near_is, closed_void, closed_cells}
+use Rattle.std.proofs.Common.{arith}
+use Rattle.rules.proofs.Rows.{as_two, cut_is, exact_array, row_at}
+use Rattle.house.specs.Mirrors.{alike}
+use Rattle.house.proofs.Closed.{mirror_exact}
 use Rattle.house.proofs.mirror.Mirror.narrowed.Goals as goal
-
-pub returns-then-new_left : goal.returns-then-new_left
-returns-then-new_left c =
-    closed_void _ _ _ _ _ (near_is _ _ _ _ c.near-new_left.ensures) (near_is _ _ _ _ c.near-new_right.ensures)
-    (elim c.then-new_left.either [ inl l ↦ inl l | inr l ↦ inr l.1 ])
 
 pub returns : goal.returns
 returns c =
-    closed_cells _ _ _ _ _ (near_is _ _ _ _ c.near-new_left.ensures) (near_is _ _ _ _ c.near-new_right.ensures)
-    (omega arith) (omega arith)
+    let rows = c.args.rows in
+    let most = c.args.self.most in
+    exact_array (alike most) (as_two rows (omega arith)) c.if_sound.ensures (mirror_exact most
+    (row_at rows 0) (row_at rows 1) c.near.result c.near-2.result
+    (cut_is _ _ _ _ c.near.ensures) (cut_is _ _ _ _ c.near-2.ensures))
