@@ -3,27 +3,29 @@ use Rattle.std.proofs.Common.{refl, arith}
 use Rattle.bounds.specs.Boards.{void, cells}
 use Rattle.settling.specs.Plans.{Applies, stay, more}
 use Rattle.cases.specs.Worked as worked
-use Rattle.cases.specs.Worked.{plate, two_designs, three_designs, triple, both, OneAlone, AnyTwo, TooFew, Union, UnionPlus, ThreeByTwos}
+use Rattle.plates.specs.Worked as plates
+use Rattle.plates.specs.Worked.{two_designs, three_designs}
+use Rattle.cases.specs.Worked.{plate, triple, both, OneAlone, AnyTwo, TooFew, Union, UnionPlus, ThreeByTwos}
 use Rattle.cases.proofs.Lowest.{lowest_first, still_alone, settles_once}
 use Rattle.cases.proofs.Earlier.{first_of_any_two}
 
 pub one_alone : OneAlone
 one_alone = record {
   narrowed = refl;
-  settles = settles_once (plate three_designs) worked.one_alone worked.others_out refl refl (omega arith) refl refl refl;
+  settles = settles_once (plate three_designs) plates.one_alone plates.others_out refl refl (omega arith) refl refl refl;
 }
 
 pub any_two : AnyTwo
 any_two = record {
   quiet = refl;
-  settles = (stay, still_alone (plate three_designs) worked.any_two refl refl, refl, refl);
+  settles = (stay, still_alone (plate three_designs) plates.two_of_three refl refl, refl, refl);
   plan = first_of_any_two;
 }
 
 pub too_few : TooFew
 too_few = record {
   narrowed = refl;
-  settles = ((0, 0, refl, stay, lowest_first (plate two_designs) worked.too_few void (omega arith) refl (omega arith), refl), refl, refl);
+  settles = ((0, 0, refl, stay, lowest_first (plate two_designs) plates.too_few void (omega arith) refl (omega arith), refl), refl, refl);
 }
 
 pub union : Union

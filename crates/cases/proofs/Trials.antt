@@ -4,7 +4,8 @@ use Rattle.bounds.specs.declared.row.Row.{Row}
 use Rattle.board.specs.Calls.{State, as_read, drop, refused, tightened, opened, dropped, settled, Does}
 use Rattle.run.specs.Runs.{Leads, here, then}
 use Rattle.cases.specs.Worked as worked
-use Rattle.cases.specs.Worked.{row, plate, two_designs, job, trial, to_tried, to_void, to_refusal, TwoTrials}
+use Rattle.plates.specs.Worked.{two_designs}
+use Rattle.cases.specs.Worked.{row, plate, job, trial, to_tried, to_void, to_refusal, TwoTrials}
 use Rattle.cases.proofs.Lowest.{settles_once}
 
 abbrev tight : List Row

@@ -10,6 +10,7 @@ use Rattle.settling.specs.Settles.{Settles}
 use Rattle.settling.specs.Plans.{First}
 use Rattle.board.specs.Calls.{Trial, as_read, drop, Event, refused, tightened, opened, dropped, settled}
 use Rattle.plates.specs.Plates.{plates}
+use Rattle.plates.specs.Worked.{two_designs, three_designs, one_alone, others_out, two_of_three, too_few}
 use Rattle.triples.specs.Triples.{triples}
 use Rattle.linear.specs.Totals.{totals}
 use Rattle.run.specs.Runs.{Leads}
@@ -17,39 +18,20 @@ use Rattle.run.specs.Runs.{Leads}
 abbrev pub row : ℕ → ℕ → Row
 row l h = record { low = l; high = h }
 
--- the record of a plate: its slots, its variety, how many counts, and the counts
-abbrev pub two_designs : List ℕ
-two_designs = 2 ∷ 0 ∷ 3 ∷ 0 ∷ 2 ∷ 0 ∷ 0 ∷ 0 ∷ 1 ∷ 0 ∷ []
-
-abbrev pub three_designs : List ℕ
-three_designs = 3 ∷ 0 ∷ 4 ∷ 0 ∷ 3 ∷ 0 ∷ 0 ∷ 0 ∷ 1 ∷ 0 ∷ 2 ∷ 0 ∷ []
-
 -- the plate at the start of the file, alone
 abbrev pub plate : List ℕ → Meaning
 plate file = plates file (0 ∷ [])
-
-abbrev pub one_alone : List Row
-one_alone = row 2 2 ∷ row 0 2 ∷ row 0 1 ∷ row 2 5 ∷ row 1 1 ∷ []
-
-abbrev pub others_out : List Row
-others_out = row 2 2 ∷ row 0 0 ∷ row 0 0 ∷ row 2 2 ∷ row 1 1 ∷ []
 
 -- A design that is surely there has to be the only one.
 pub record OneAlone : Type 0 where
   pub narrowed : ((plate three_designs).rule 0).narrowed one_alone ≡ cells others_out
   pub settles : Settles (plate three_designs) one_alone others_out (Settled 1)
 
-abbrev pub any_two : List Row
-any_two = row 0 2 ∷ row 0 2 ∷ row 0 2 ∷ row 3 3 ∷ row 2 2 ∷ []
-
 -- Any two of three designs will do, so nothing narrows; the first plan leaves count 0 out.
 pub record AnyTwo : Type 0 where
-  pub quiet : ((plate three_designs).rule 0).narrowed any_two ≡ cells any_two
-  pub settles : Settles (plate three_designs) any_two any_two (Settled 0)
-  pub plan : First (plate three_designs) (λ p. Fills p any_two) (0 ∷ 1 ∷ 2 ∷ 3 ∷ 2 ∷ [])
-
-abbrev pub too_few : List Row
-too_few = row 0 1 ∷ row 0 1 ∷ row 2 2 ∷ row 1 1 ∷ []
+  pub quiet : ((plate three_designs).rule 0).narrowed two_of_three ≡ cells two_of_three
+  pub settles : Settles (plate three_designs) two_of_three two_of_three (Settled 0)
+  pub plan : First (plate three_designs) (λ p. Fills p two_of_three) (0 ∷ 1 ∷ 2 ∷ 3 ∷ 2 ∷ [])
 
 -- Two copies of one design, which has one at most.
 pub record TooFew : Type 0 where

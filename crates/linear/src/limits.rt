@@ -1,5 +1,5 @@
 // The bounds that a linear constraint leaves its cells.
-ghost use Rattle.std.specs.Prelude.{◌≡◌, ◌+◌, ◌-◌, ◌*◌, ◌^◌, ◌<◌, ◌≤◌, []};
+ghost use Rattle.std.specs.Prelude.{◌≡◌, ◌+◌, ◌-◌, ◌*◌, ◌^◌, ◌<◌, ◌≤◌, ◌⊎◌, [], MatchOption};
 ghost use Rattle.linear.specs.Linear.{over, limits, bounded};
 
 use crate::division::div_up;
@@ -14,6 +14,15 @@ pub struct Limits {
     pub most: u64,
 }
 
+// Limits that the cells may meet: at their highs they weigh enough, at their lows not too much.
+#[derive(Clone, Copy)]
+pub struct Open {
+    sum: Limits,
+    ghost reached: { sum.floor ≤ sum.most },
+    ghost kept: { sum.least ≤ sum.ceiling },
+    ghost small: { sum.most < 2 ^ 63 },
+}
+
 // The fewest copies of a cell with which the floor is reached, where the other cells weigh so much.
 fn needed(floor: u64, others: u64, weight: u32) -> u64
     requires floor { floor < 2 ^ 63 }
@@ -21,6 +30,7 @@ fn needed(floor: u64, others: u64, weight: u32) -> u64
     requires weight { 0 < weight }
     ensures { result ≡ over (floor - others) weight }
 {
+    // Kept: that the casts keep each number is proved, where a try_from would add an error that cannot be.
     div_up(floor as i64 - others as i64, weight).max(0) as u64
 }
 
@@ -54,20 +64,38 @@ impl Limits {
         }
     }
 
+    // None if no counts within the bounds can meet them.
+    pub fn open(self) -> Option<Open>
+        requires { self.most < 2 ^ 63 }
+        ensures { MatchOption result ((self.ceiling < self.least) ⊎ (self.most < self.floor)) (λ o. o.sum ≡ self) }
+    {
+        if self.least > self.ceiling || self.most < self.floor {
+            None
+        } else {
+            Some(Open { sum: self })
+        }
+    }
+}
+
+impl Open {
     // The bounds left to a cell of this weight, which is one of those weighed.
     pub fn bound(self, weight: u32, row: Row) -> Row
         requires weight { 0 < weight }
-        requires low { weight * row.low ≤ self.least }
-        requires high { weight * row.high ≤ self.most }
-        requires floor { self.floor ≤ self.most }
-        requires ceiling { self.least ≤ self.ceiling }
-        requires small { self.most < 2 ^ 63 }
-        ensures { result ≡ bounded self weight row }
+        requires low { weight * row.low ≤ self.sum.least }
+        requires high { weight * row.high ≤ self.sum.most }
+        ensures { result ≡ bounded self.sum weight row }
     {
-        let others_least = self.least - u64::from(weight) * u64::from(row.low);
-        let others_most = self.most - u64::from(weight) * u64::from(row.high);
-        let most = (self.ceiling - others_least) / u64::from(weight);
-        let fewest = needed(self.floor, others_most, weight);
+        let Limits {
+            floor,
+            ceiling,
+            least,
+            most,
+        } = self.sum;
+        let others_least = least - u64::from(weight) * u64::from(row.low);
+        let others_most = most - u64::from(weight) * u64::from(row.high);
+        let fewest = needed(floor, others_most, weight);
+        let most = (ceiling - others_least) / u64::from(weight);
+        // Kept: the same holds of these casts.
         Row {
             low: u64::from(row.low).max(fewest) as u16,
             high: u64::from(row.high).min(most) as u16,

@@ -8,5 +8,3 @@ pub mod Adding
 pub mod Frames
 pub mod Writes
 pub mod Whole
-pub mod Scopes
-pub mod Answered

@@ -1,12 +1,11 @@
 -- A loop that writes f x over each row x, and notes whether one differs.
-use Rattle.std.proofs.Common.{◌≡◌, ℕ, ◌+◌, ◌<◌, ◌≤◌, Bool, true, false, not, ◌≢◌, ◌⊎◌, List, map, length, get_or, set, sym, refl, ap, ◌∙◌, inl, inr, arith, get_or-set_other, get_or-set_same, below_more}
+use Rattle.std.proofs.Common.{◌≡◌, ℕ, ◌<◌, ◌≤◌, Bool, true, false, not, ◌≢◌, List, map, length, get_or, sym, refl, ap, ◌∙◌, arith}
 use Rattle.std.proofs.lemmas.List.{length-map, get_or-map}
-use Rattle.std.proofs.lemmas.Bool.{true≢false}
 use Rattle.bounds.specs.declared.row.Row.{Row}
 use Rattle.bounds.specs.Boards.{none_row}
 use Rattle.bounds.proofs.Places.{same_rows}
 use Rattle.rules.proofs.Compared.{same_row_test, rows_differ, rows_agree}
-use Rattle.plates.specs.declared.frame.Frame.{Frame}
+use Rattle.plates.specs.Form.{Frame}
 use Rattle.plates.specs.Form.{count_of}
 use Rattle.plates.specs.Work.{Wrote}
 
@@ -23,29 +22,6 @@ pub record Writing (f : Row → Row) (xs ys : List Row) (i : ℕ) (b : Bool) : T
   pub left : (j : ℕ) → i ≤ j → get_or ys j none_row ≡ get_or xs j none_row
   pub same : b ≡ false → (j : ℕ) → j < i → f (get_or xs j none_row) ≡ get_or xs j none_row
   pub other : b ≡ true → (j : ℕ) × (j < i) × (f (get_or xs j none_row) ≢ get_or xs j none_row)
-
-pub writing_none : (f : Row → Row) (xs : List Row) → Writing f xs xs 0 false
-writing_none f xs = record {
-  done = λ j l. absurd (omega arith);
-  left = λ j l. refl;
-  same = λ e j l. absurd (omega arith);
-  other = λ e. absurd (true≢false (sym e));
-}
-
-pub writing_more : (f : Row → Row) (xs ys : List Row) (i : ℕ) (b d : Bool) (n : Row) → i < length ys → Writing f xs ys i b → n ≡ f (get_or ys i none_row)
-    → ((d ≡ true) × (n ≢ get_or ys i none_row)) ⊎ ((d ≡ b) × (n ≡ get_or ys i none_row)) → Writing f xs (set ys i n) (i + 1) d
-writing_more f xs ys i b d n l w e t =
-    let here : get_or ys i none_row ≡ get_or xs i none_row = w.left i (omega arith) in
-    let is : n ≡ f (get_or xs i none_row) = e ∙ ap f here in
-    record {
-      done = below_more _ _ (λ j k. get_or-set_other ys i j n none_row (omega arith) ∙ w.done j k) (get_or-set_same ys i n none_row l ∙ is);
-      left = λ j k. get_or-set_other ys i j n none_row (omega arith) ∙ w.left j (omega arith);
-      same = λ z. elim t [ inl p ↦ absurd (true≢false (sym p.0 ∙ z)) | inr p ↦ below_more _ _ (w.same (sym p.0 ∙ z)) (sym is ∙ p.1 ∙ here) ];
-      other = λ z. elim t [
-        | inl p ↦ (i, omega arith, λ q. p.1 (is ∙ q ∙ sym here))
-        | inr p ↦ let (j, k, q) = w.other (sym p.0 ∙ z) in (j, omega arith, q)
-      ];
-    }
 
 pub writing_all : (f : Frame) (xs ys : List Row) (i : ℕ) (b : Bool) → length ys ≡ length xs → length xs ≤ i → Writing (count_of f) xs ys i b → Wrote f xs ys b
 writing_all f xs ys i b n l w =

@@ -2,7 +2,6 @@
 use Rattle.std.specs.Prelude.{ℕ, zero, suc, ◌+◌, ◌-◌, min, max, Bool, cond, ◌&&◌, List, [], ◌∷◌, map, nat_le, nat_lt}
 use Rattle.bounds.specs.declared.row.Row.{Row}
 use Rattle.bounds.specs.Boards.{Board, void, cells}
-use Rattle.plates.specs.declared.frame.Frame.{Frame}
 use Rattle.plates.specs.Plates.{one}
 
 -- A count is certain if its low is above 0, else optional if its high is.
@@ -62,7 +61,21 @@ feasible s v cs =
     (nat_le (certain cs) v.high && nat_le (low_sum cs) s.high)
     && (nat_le (fewest s v cs) (most s v cs) && nat_le s.low (reach cs (fewest s v cs)))
 
--- what the new bounds are made of, with k1 to k2 optional counts present
+-- what the new bounds are made of: the bounds of the slots, what the counts add up to, the fewest and the most optional
+-- counts that can be present, and the largest sums with one fewer than the fewest, with the most, with one more
+pub record Frame : Type 0 where
+  pub floor : ℕ
+  pub ceiling : ℕ
+  pub certain : ℕ
+  pub optional : ℕ
+  pub lows : ℕ
+  pub fewest : ℕ
+  pub most : ℕ
+  pub under : ℕ
+  pub at : ℕ
+  pub over : ℕ
+
+-- with k1 to k2 optional counts present
 abbrev pub frame_at : Row → List Row → ℕ → ℕ → Frame
 frame_at s cs k1 k2 = record {
   floor = s.low;

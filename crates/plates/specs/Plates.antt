@@ -1,9 +1,10 @@
 -- The plate rule: the copies of the designs fill the slots, and the variety is how many designs have a copy.
-use Rattle.std.specs.Prelude.{ℕ, zero, suc, ◌+◌, Bool, true, false, cond, ◌&&◌, List, [], ◌∷◌, length, ◌==◌, nat_le, nat_lt}
+use Rattle.std.specs.Prelude.{ℕ, zero, suc, ◌+◌, Bool, true, false, cond, ◌&&◌, List, [], ◌∷◌, length, ◌==◌}
 use Rattle.bounds.specs.Laws.{Meaning}
 use Rattle.bounds.specs.Scoped.{Scoped, exact_on}
 use Rattle.bounds.specs.Listed.{listed}
 use Rattle.records.specs.Records.{Plate, plate_at}
+use Rattle.records.specs.Forms.{between, plate_names}
 
 abbrev pub sum : List ℕ → ℕ
 sum [] = 0
@@ -27,7 +28,7 @@ plate (slots ∷ variety ∷ counts) = slots == sum counts && variety == present
 
 -- a plate has 1 to 64 counts; any other record names no cell
 abbrev pub scope_of : Plate → List ℕ
-scope_of p = cond (nat_lt 0 (length p.counts) && nat_le (length p.counts) 64) (p.slots ∷ p.variety ∷ p.counts) []
+scope_of p = cond (between 1 64 (length p.counts)) (plate_names p) []
 
 abbrev pub plate_rule : List ℕ → ℕ → Scoped
 plate_rule file place = exact_on (scope_of (plate_at file place)) plate

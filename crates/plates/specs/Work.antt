@@ -2,8 +2,8 @@
 use Rattle.std.specs.Prelude.{◌≡◌, ℕ, ◌+◌, ◌*◌, ◌<◌, ◌≤◌, max, Bool, true, false, ◌≢◌, List, map, Some, None, Option, slice_index, slice_index_or}
 use Rattle.bounds.specs.declared.row.Row.{Row}
 use Rattle.plates.specs.declared.frame.Sums.{Sums}
-use Rattle.plates.specs.declared.frame.Frame.{Frame}
-use Rattle.plates.specs.Form.{certain, optional, low_sum, base, top, feasible, frame_of, count_of}
+use Rattle.plates.specs.declared.frame.Frame.TheInside.{Inside}
+use Rattle.plates.specs.Form.{Frame, certain, optional, low_sum, base, top, feasible, frame_of, count_of}
 
 abbrev pub sum_at : List ℕ → ℕ → ℕ → ℕ
 sum_at t b k = b + slice_index t k
@@ -32,6 +32,20 @@ pub record Topped (cs : List Row) (t : List ℕ) (s : Sums) (n : ℕ) : Type 0 w
   pub tops : (k : ℕ) → k ≤ s.optional → slice_index t k ≡ top cs k
   pub limit : (k : ℕ) → k ≤ s.optional → slice_index t k ≤ 65535 * n
 
+abbrev pub numbers : Inside → Frame
+numbers f = record {
+  floor = f.floor;
+  ceiling = f.ceiling;
+  certain = f.certain;
+  optional = f.optional;
+  lows = f.lows;
+  fewest = f.fewest;
+  most = f.most;
+  under = f.under;
+  at = f.at;
+  over = f.over;
+}
+
 -- numbers with room to add, as of a plate that can be filled
 pub record Small (f : Frame) : Type 0 where
   pub floor : f.floor < 65536
@@ -46,7 +60,7 @@ pub record Small (f : Frame) : Type 0 where
 
 abbrev pub Framed : Row → Row → List Row → Option Frame → Type 0
 Framed s v cs None = feasible s v cs ≡ false
-Framed s v cs (Some f) = (feasible s v cs ≡ true) × (f ≡ frame_of s v cs) × Small f
+Framed s v cs (Some f) = (feasible s v cs ≡ true) × (f ≡ frame_of s v cs)
 
 pub record Wrote (f : Frame) (a b : List Row) (changed : Bool) : Type 0 where
   pub is : b ≡ map (count_of f) a

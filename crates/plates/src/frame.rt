@@ -1,9 +1,10 @@
 // The narrowing of a plate, in closed form.
 ghost use Rattle.std.specs.Prelude.{◌≡◌, ℕ, ◌+◌, ◌-◌, ◌*◌, ◌<◌, ◌≤◌, length};
 ghost use Rattle.plates.specs.Form.{seek, slots_of, variety_of, low_of, high_of, count_of};
-ghost use Rattle.plates.specs.Work.{Admitted, Light, Summed, Topped, Small, Framed, Wrote, sum_at};
+ghost use Rattle.plates.specs.Work.{Admitted, Light, Summed, Topped, Framed, Wrote, sum_at};
 
 use bounds::row::Row;
+use std::marker::Model;
 
 // A count is certain if its low is above 0, else optional if its high is.
 #[derive(Clone, Copy)]
@@ -16,7 +17,7 @@ struct Sums {
 }
 
 // What the new bounds are made of.
-#[derive(Clone, Copy)]
+#[derive(Drop)]
 pub struct Frame {
     floor: u32,
     ceiling: u32,
@@ -32,15 +33,28 @@ pub struct Frame {
     over: u32,
 }
 
+impl Model for Frame {
+    ghost use Rattle.plates.specs.Form.{Frame};
+
+    ghost Value = { Frame };
+
+    ghost use Rattle.plates.specs.Work.{numbers, Small};
+
+    ghost view = { numbers };
+
+    ghost invariant = { λ f. Small (numbers f) };
+}
+
 // One more high to choose from: the largest sums of at most so many of them.
 fn admit(top: &mut [u32], count: usize, high: u16)
     requires room { count + 1 < length top.old }
     requires light { Light top.old count 4194304 }
     ensures { Admitted top.old top.new count high }
 {
-    top[count + 1] = top[count] + high as u32;
+    top[count + 1] = top[count] + u32::from(high);
+    // Kept: each sum is made of the one before it as that was, which a walk upwards over the sums alone would have to carry along.
     for k in (0..count).rev() {
-        top[k + 1] = top[k + 1].max(top[k] + high as u32);
+        top[k + 1] = top[k + 1].max(top[k] + u32::from(high));
     }
 }
 
@@ -55,14 +69,13 @@ fn add_up(counts: &[Row], top: &mut [u32]) -> Sums
     let mut lows = 0;
     let mut base = 0;
     top[0] = 0;
-    for i in (0..counts.len()).rev() {
-        let row = counts[i];
-        lows += row.low as u32;
-        if row.low > 0 {
+    for Row { low, high } in counts.iter().rev().copied() {
+        lows += u32::from(low);
+        if low > 0 {
             certain += 1;
-            base += row.high as u32;
-        } else if row.high > 0 {
-            admit(top, optional as usize, row.high);
+            base += u32::from(high);
+        } else if high > 0 {
+            admit(top, optional as usize, high);
             optional += 1;
         }
     }
@@ -74,68 +87,44 @@ fn add_up(counts: &[Row], top: &mut [u32]) -> Sums
     }
 }
 
-// The first k from least on, and up to most, with a sum of at least floor, or the last.
-fn first_from(top: &[u32], base: u32, floor: u32, least: u32, most: u32) -> u32
-    requires inside { most < length top.now }
-    requires base { base < 4194304 }
-    requires light { Light top.now most 4194304 }
-    ensures { result ≡ seek (sum_at top.now base) floor least (most - least) }
-{
-    let mut k = least;
-    while k < most && base + top[k as usize] < floor {
-        k += 1;
-    }
-    k
-}
-
 impl Frame {
     // None where no filling of the rows meets the rule.
+    // Kept: that the counts are 64 at most is a fact of the plate's record, which plain rows do not know.
     pub fn of(slots: Row, variety: Row, counts: &[Row]) -> Option<Frame>
         requires { length counts.now ≤ 64 }
         ensures { Framed slots variety counts.now result }
     {
+        // Kept: settling has no heap, so the sums of at most 64 counts lie in an array that has room for all.
         let mut top = [0u32; 65];
-        let sums = add_up(counts, &mut top);
-        let floor = slots.low as u32;
-        let ceiling = slots.high as u32;
-        let kinds = variety.high as u32;
-        if kinds < sums.certain || ceiling < sums.lows {
-            return None;
-        }
-        let most = sums
-            .optional
-            .min((kinds - sums.certain).min(ceiling - sums.lows));
-        let least = (variety.low as u32).saturating_sub(sums.certain);
-        let fewest = first_from(&top, sums.base, floor, least, most);
-        if most < fewest {
-            return None;
-        }
-        if sums.base + top[fewest as usize] < floor {
-            return None;
-        }
-        let at = sums.base + top[most as usize];
-        let over = if most < sums.optional {
-            sums.base + top[most as usize + 1]
-        } else {
-            at
-        };
-        let under = sums.base + top[fewest.saturating_sub(1) as usize];
+        let Sums {
+            certain,
+            optional,
+            lows,
+            base,
+        } = add_up(counts, &mut top);
+        let floor = u32::from(slots.low);
+        let ceiling = u32::from(slots.high);
+        let kinds = u32::from(variety.high).checked_sub(certain)?;
+        let copies = ceiling.checked_sub(lows)?;
+        let most = optional.min(kinds).min(copies);
+        let least = u32::from(variety.low).saturating_sub(certain);
+        let fewest = (least..most + 1).find(|k| base + top[*k as usize] >= floor)?;
         Some(Frame {
             floor,
             ceiling,
-            certain: sums.certain,
-            optional: sums.optional,
-            lows: sums.lows,
+            certain,
+            optional,
+            lows,
             fewest,
             most,
-            under,
-            at,
-            over,
+            under: base + top[fewest.saturating_sub(1) as usize],
+            at: base + top[most as usize],
+            over: base + top[optional.min(most + 1) as usize],
         })
     }
 
+    // Kept: that these casts and those below keep each number is proved, where a try_from would add an error that cannot be.
     pub fn slots(&self) -> Row
-        requires { Small self.now }
         ensures { result ≡ slots_of self.now }
     {
         Row {
@@ -145,7 +134,6 @@ impl Frame {
     }
 
     pub fn variety(&self) -> Row
-        requires { Small self.now }
         ensures { result ≡ variety_of self.now }
     {
         Row {
@@ -154,69 +142,59 @@ impl Frame {
         }
     }
 
-    fn low(&self, low: u32, high: u32) -> u32
-        requires small { Small self.now }
-        requires low { low < 65536 }
-        requires high { high < 65536 }
-        ensures is { result ≡ low_of self.now low high }
-        ensures fits { result < 65536 }
+    fn low(&self, row: Row) -> u16
+        ensures { result ≡ low_of self.now row.low row.high }
     {
-        let need = (self.floor + high).saturating_sub(self.at);
-        if low > 0 {
-            low.max(need)
-        } else if high == 0 {
-            0
-        } else if self.fewest < self.optional && self.floor + high <= self.over {
+        let with = self.floor + u32::from(row.high);
+        let need = with.saturating_sub(self.at) as u16;
+        if row.low > 0 {
+            row.low.max(need)
+        } else if row.high == 0 || self.fewest < self.optional && with <= self.over {
             0
         } else {
             need.max(1)
         }
     }
 
-    fn high(&self, low: u32, high: u32) -> u32
-        requires small { Small self.now }
-        requires low { low < 65536 }
-        requires high { high < 65536 }
-        ensures is { result ≡ high_of self.now low high }
-        ensures fits { result < 65536 }
+    fn high(&self, row: Row) -> u16
+        ensures { result ≡ high_of self.now row.low row.high }
     {
+        let high = u32::from(row.high);
         let least = self.lows + self.fewest;
-        if low > 0 {
-            high.min((self.ceiling + low).saturating_sub(least))
+        let room = if row.low > 0 {
+            (self.ceiling + u32::from(row.low)).saturating_sub(least)
         } else if self.fewest > 0 && self.floor <= high + self.under {
-            high.min((self.ceiling + 1).saturating_sub(least))
+            (self.ceiling + 1).saturating_sub(least)
         } else if self.fewest < self.most {
-            high.min(self.ceiling.saturating_sub(least))
+            self.ceiling.saturating_sub(least)
         } else {
             0
-        }
+        };
+        high.min(room) as u16
     }
 
     fn count(&self, row: Row) -> Row
-        requires { Small self.now }
         ensures { result ≡ count_of self.now row }
     {
-        let low = row.low as u32;
-        let high = row.high as u32;
         Row {
-            low: self.low(low, high) as u16,
-            high: self.high(low, high) as u16,
+            low: self.low(row),
+            high: self.high(row),
         }
     }
 
     // Writes the new rows of the counts; whether one differs.
+    // Kept: the rows are written in any case, and that one differs is the whole of the answer.
+    #[tactic(auto, using(crate::proofs::Writes::writing_all))]
     pub fn put_counts(&self, counts: &mut [Row]) -> bool
-        requires { Small self.now }
         ensures { Wrote self.now counts.old counts.new result }
     {
         let mut changed = false;
-        for i in 0..counts.len() {
-            let old = counts[i];
-            let new = self.count(old);
-            if new != old {
+        for row in counts.iter_mut() {
+            let new = self.count(*row);
+            if new != *row {
                 changed = true;
             }
-            counts[i] = new;
+            *row = new;
         }
         changed
     }

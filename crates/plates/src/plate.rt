@@ -1,45 +1,46 @@
 // A plate: the copies of its designs fill its slots, and its variety is how many designs have a copy.
-ghost use Rattle.std.specs.Prelude.{◌≡◌, ◌≤◌, true, length};
+ghost use Rattle.std.specs.Prelude.{◌≡◌, ◌≤◌, true, ◌∷◌, length, nat_le, refl};
 ghost use Rattle.bounds.specs.Boards.{sound};
 ghost use Rattle.bounds.specs.Exact.{exact};
+ghost use Rattle.bounds.proofs.Lifted.{exact_on_laws};
+ghost use Rattle.records.specs.Records.{plate_at};
 ghost use Rattle.rule_families.specs.Narrows.{Narrows};
-ghost use Rattle.plates.specs.Plates.{plate, plate_rule};
+ghost use Rattle.rules.proofs.Few.{two_and_64};
+ghost use Rattle.plates.specs.Plates.{plate, scope_of, plate_rule};
 
 use crate::frame::Frame;
 use bounds::row::Row;
-use records::bytes::u16_at;
+use bounds::scope::Scope;
+use records::body::BodyKind;
+use records::bytes::Spot;
+use records::plates::Plates;
 use rule_families::change::Change;
 use rules::named::Named;
 
-// The most designs on a plate.
-const MOST_COUNTS: usize = 64;
-
-// The plate whose record stands at a place of the file.
+// The plate whose record stands at a spot of the file.
+// Kept: a total is such a struct too; one over the kind of body would take a bound and a marker to share two lines of `arity`.
 #[derive(Clone, Copy)]
 pub struct Plate<'f> {
-    pub file: &'f [u8],
-    pub place: u16,
+    pub spot: Spot<'f>,
 }
 
 // Narrows the rows of the slots, the variety and the counts to the hull of the fillings that meet the rule.
-pub(crate) fn narrow(rows: &mut [Row]) -> Change
-    requires two { 2 ≤ length rows.old }
-    requires few { length rows.old ≤ 66 }
-    requires sound { sound rows.old ≡ true }
-    ensures { Narrows (exact plate) rows.old rows.new result }
+#[tactic(auto, using(crate::proofs::Whole::void_outcome))]
+fn narrow(slots: &mut Row, variety: &mut Row, counts: &mut [Row]) -> Change
+    requires few { length counts.old ≤ 64 }
+    requires sound { sound (slots.old ∷ (variety.old ∷ counts.old)) ≡ true }
+    ensures { Narrows (exact plate) (slots.old ∷ (variety.old ∷ counts.old)) (slots.new ∷ (variety.new ∷ counts.new)) result }
 {
-    let old_slots = rows[0];
-    let old_variety = rows[1];
-    let Some(frame) = Frame::of(old_slots, old_variety, &rows[2..]) else {
+    let Some(frame) = Frame::of(*slots, *variety, counts) else {
         return Change::Void;
     };
-    let slots = frame.slots();
-    let variety = frame.variety();
-    rows[0] = slots;
-    rows[1] = variety;
-    let counts_moved = frame.put_counts(&mut rows[2..]);
-    let slots_moved = slots != old_slots;
-    let variety_moved = variety != old_variety;
+    let new_slots = frame.slots();
+    let new_variety = frame.variety();
+    let counts_moved = frame.put_counts(counts);
+    let slots_moved = new_slots != *slots;
+    let variety_moved = new_variety != *variety;
+    *slots = new_slots;
+    *variety = new_variety;
     if counts_moved || slots_moved || variety_moved {
         Change::Narrowed
     } else {
@@ -47,29 +48,42 @@ pub(crate) fn narrow(rows: &mut [Row]) -> Change
     }
 }
 
-impl Named for Plate<'_> {
-    ghost scoped = { λ p. plate_rule p.file.now p.place };
+impl Scope for Plate<'_> {
+    ghost scope = { λ p. scope_of (plate_at p.spot.bytes.now p.spot.place) };
 
     fn arity(&self) -> usize {
-        let counts = u16_at(self.file, self.place as usize + 4) as usize;
-        if 0 < counts && counts <= MOST_COUNTS {
-            counts + 2
-        } else {
-            0
+        if !Plates::keeps_limits(self.spot) {
+            return 0;
         }
+        Plates::arity(self.spot)
     }
 
+    // Kept: only cells that there are are asked for, so one number is read; the record's `name` answers past them too, by its head.
+    #[tactic(auto, using(records::proofs::Fields::length_numbers, records::proofs::Fields::get_or_numbers))]
     fn cell(&self, i: usize) -> usize {
         // the number of counts stands between the variety and the first count
         let index = if i < 2 { i } else { i + 1 };
-        u16_at(self.file, self.place as usize + 2 * index) as usize
+        usize::from(self.spot.u16(2 * index))
     }
+}
+
+impl Named for Plate<'_> {
+    ghost scoped = { λ p. plate_rule p.spot.bytes.now p.spot.place };
+
+    ghost lawful = { λ p. exact_on_laws (scope_of (plate_at p.spot.bytes.now p.spot.place)) plate };
+
+    ghost names_them = { λ p. refl };
+
+    ghost few = { λ p. let r = plate_at p.spot.bytes.now p.spot.place in two_and_64 (nat_le 1 (length r.counts)) r.slots r.variety r.counts };
 
     fn narrow_own(&self, own: &mut [Row]) -> Change {
-        if own.is_empty() {
-            Change::Quiet
-        } else {
-            narrow(own)
-        }
+        // Only a record that keeps no limits names no cell.
+        let Some((slots, rest)) = own.split_first_mut() else {
+            return Change::Quiet;
+        };
+        let Some((variety, counts)) = rest.split_first_mut() else {
+            return Change::Quiet;
+        };
+        narrow(slots, variety, counts)
     }
 }

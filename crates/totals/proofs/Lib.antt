@@ -1,5 +1,4 @@
 pub mod Terms
-pub mod Lawful
 pub mod Outcomes
 pub mod Opened
 pub mod Scope

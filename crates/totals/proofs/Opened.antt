@@ -9,7 +9,7 @@ use Rattle.linear.proofs.Weights.{weighed_one, positive_at, bounded_length, boun
 use Rattle.linear.proofs.TotalLaws.{weights_positive}
 use Rattle.totals.specs.declared.total.Total.{Total}
 use Rattle.totals.specs.Read.{record_of, weights}
-use Rattle.totals.specs.Narrowing.{limits_of, new_rows, Open}
+use Rattle.totals.specs.Narrowing.{limits_of, new_rows, Opened}
 
 -- what bounding a cell of weight w requires
 pub record Ready (l : Limits) (w : ℕ) (r : Row) : Type 0 where
@@ -17,7 +17,7 @@ pub record Ready (l : Limits) (w : ℕ) (r : Row) : Type 0 where
   pub low : w * r.low ≤ l.least
   pub high : w * r.high ≤ l.most
 
-module _ (t : Total) (a : List Row) (l : Limits) (o : Open t a l) where
+module _ (t : Total) (a : List Row) (l : Limits) (o : Opened t a l) where
   as_many : length (weights t) ≡ length a
   as_many = length-map (record_of t).terms (λ x. x.weight) ∙ sym o.many
 
@@ -32,7 +32,7 @@ module _ (t : Total) (a : List Row) (l : Limits) (o : Open t a l) where
         let high = ap (λ n. n * (get_or a i none_row).high) e in
         let k = as_many in
         record {
-          weight = omega (arith, positive_at (weights t) i (weights_positive (weights t) o.lawful) (omega arith));
+          weight = omega (arith, positive_at (weights t) i (weights_positive (record_of t).terms o.lawful) (omega arith));
           low = omega (arith, ap (λ x. x.least) o.value);
           high = omega (arith, ap (λ x. x.most) o.value);
         }

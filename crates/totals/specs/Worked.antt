@@ -1,19 +1,20 @@
 -- What the bounds of a total promise, and what they do not.
 use Rattle.std.specs.Prelude.{◌≡◌, ℕ, ◌≤◌, true, ◌≢◌, List, [], ◌∷◌}
 use Rattle.records.specs.Records.{Total, total_at}
+use Rattle.records.specs.Forms.{term_cells}
 use Rattle.bounds.specs.declared.row.Row.{Row}
 use Rattle.bounds.specs.Boards.{Board, void, cells, sound, lows, highs, none_row}
 use Rattle.bounds.specs.Exact.{exact}
 use Rattle.bounds.specs.Scoped.{distinct, gather, on_board}
 use Rattle.linear.specs.Linear.{weighed}
-use Rattle.linear.specs.Totals.{cells_of, weights_of, total_rule, totals}
+use Rattle.linear.specs.Totals.{weights_of, total_rule, totals}
 
 -- what the cells of a total weigh at the lows of the board, and at its highs
 abbrev pub lightest : Total → List Row → ℕ
-lightest t a = weighed (weights_of t.terms) (lows (gather none_row (cells_of t.terms) a))
+lightest t a = weighed (weights_of t.terms) (lows (gather none_row (term_cells t.terms) a))
 
 abbrev pub heaviest : Total → List Row → ℕ
-heaviest t a = weighed (weights_of t.terms) (highs (gather none_row (cells_of t.terms) a))
+heaviest t a = weighed (weights_of t.terms) (highs (gather none_row (term_cells t.terms) a))
 
 -- on the board, the total at the place is narrowed to the hull of the fillings that meet it
 abbrev pub NarrowedExactly : List ℕ → ℕ → List Row → Type 0

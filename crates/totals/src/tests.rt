@@ -4,6 +4,11 @@ use bounds::row::Row;
 use rule_families::change::Change;
 use rule_families::family::Family;
 
+// The total at the start of a file, alone.
+fn at_start(file: &[u8]) -> Totals<'_> {
+    Totals::at(file, &[0])
+}
+
 #[test]
 fn two_twos_are_never_three(rt: HostRuntime) {
     let (changes, rows) = both_limits_bind();
@@ -17,10 +22,7 @@ fn a_ceiling_lowers_the_highs(rt: HostRuntime) {
     let file = [
         2, 0, 0, 0, 0, 0, 0, 0, 0, 0, 10, 0, 0, 0, 0, 0, 0, 0, 0, 0, 2, 0, 0, 0, 1, 0, 3, 0, 0, 0,
     ];
-    let totals = Totals {
-        file: &file,
-        places: &[0],
-    };
+    let totals = at_start(&file);
     let mut rows = [Row { low: 1, high: 9 }, Row { low: 1, high: 9 }];
     assert_eq!(rt; totals.narrow(0, &mut rows), Change::Narrowed);
     assert_eq!(rt; rows, [Row { low: 1, high: 3 }, Row { low: 1, high: 2 }]);
@@ -32,10 +34,7 @@ fn a_floor_raises_the_lows(rt: HostRuntime) {
     let file = [
         2, 0, 10, 0, 0, 0, 0, 0, 0, 0, 99, 0, 0, 0, 0, 0, 0, 0, 0, 0, 2, 0, 0, 0, 1, 0, 3, 0, 0, 0,
     ];
-    let totals = Totals {
-        file: &file,
-        places: &[0],
-    };
+    let totals = at_start(&file);
     let mut rows = [Row { low: 0, high: 3 }, Row { low: 0, high: 2 }];
     assert_eq!(rt; totals.narrow(0, &mut rows), Change::Narrowed);
     assert_eq!(rt; rows, [Row { low: 2, high: 3 }, Row { low: 2, high: 2 }]);
@@ -45,17 +44,11 @@ fn a_floor_raises_the_lows(rt: HostRuntime) {
 fn largest(floor: u64, ceiling: u64) -> [u8; 402] {
     let mut file = [0u8; 402];
     file[0] = 64;
-    let floor = floor.to_le_bytes();
-    let ceiling = ceiling.to_le_bytes();
-    for i in 0..8 {
-        file[2 + i] = floor[i];
-        file[10 + i] = ceiling[i];
-    }
-    for i in 0..64 {
-        file[18 + 6 * i] = i as u8;
-        file[20 + 6 * i] = 0x40;
-        file[21 + 6 * i] = 0x42;
-        file[22 + 6 * i] = 0x0f;
+    file[2..10].copy_from_slice(&floor.to_le_bytes());
+    file[10..18].copy_from_slice(&ceiling.to_le_bytes());
+    for (cell, term) in (0u8..64).zip(file[18..].chunks_exact_mut(6)) {
+        term[0] = cell;
+        term[2..].copy_from_slice(&1_000_000u32.to_le_bytes());
     }
     file
 }
@@ -63,10 +56,7 @@ fn largest(floor: u64, ceiling: u64) -> [u8; 402] {
 #[test]
 fn the_largest_sum_does_not_wrap(rt: HostRuntime) {
     let file = largest(4_194_240_000_000, 10_000_000_000_000);
-    let totals = Totals {
-        file: &file,
-        places: &[0],
-    };
+    let totals = at_start(&file);
     let mut rows = [Row {
         low: 0,
         high: 65535,
@@ -84,10 +74,7 @@ fn the_largest_sum_does_not_wrap(rt: HostRuntime) {
 #[test]
 fn no_sum_passes_the_largest(rt: HostRuntime) {
     let file = largest(4_194_240_000_001, 10_000_000_000_000);
-    let totals = Totals {
-        file: &file,
-        places: &[0],
-    };
+    let totals = at_start(&file);
     let mut rows = [Row {
         low: 0,
         high: 65535,
@@ -100,10 +87,7 @@ fn a_weight_of_zero_makes_no_rule(rt: HostRuntime) {
     let file = [
         2, 0, 0, 0, 0, 0, 0, 0, 0, 0, 1, 0, 0, 0, 0, 0, 0, 0, 0, 0, 2, 0, 0, 0, 1, 0, 0, 0, 0, 0,
     ];
-    let totals = Totals {
-        file: &file,
-        places: &[0],
-    };
+    let totals = at_start(&file);
     let mut rows = [Row { low: 0, high: 9 }, Row { low: 0, high: 9 }];
     assert!(rt; !totals.touches(0, 2, 0));
     assert_eq!(rt; totals.narrow(0, &mut rows), Change::Quiet);

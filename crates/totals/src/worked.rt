@@ -1,7 +1,9 @@
 // What the bounds of a total promise, and what they do not.
-ghost use Rattle.std.specs.Prelude.{◌≡◌, [], ◌∷◌};
+ghost use Rattle.std.specs.Prelude.{◌≡◌, true, [], ◌∷◌};
+ghost use Rattle.bounds.specs.Boards.{sound};
+ghost use Rattle.rule_families.specs.Narrows.{Narrows};
 ghost use Rattle.rule_families.specs.declared.change.Change.TheVariants.{Narrowed, Void};
-ghost use Rattle.totals.specs.Worked.{CeilingIsExact, FloorIsExact, BothLimitsBind, both_one};
+ghost use Rattle.totals.specs.Worked.{narrowed_by, CeilingIsExact, FloorIsExact, BothLimitsBind, both_one};
 
 use crate::family::Totals;
 use bounds::row::Row;
@@ -17,6 +19,14 @@ pub fn floor_is_exact()
     ensures { FloorIsExact }
 {}
 
+// What the total at a file's start makes of the rows.
+fn applied(file: &[u8], rows: &mut [Row]) -> Change
+    requires { sound rows.old ≡ true }
+    ensures { Narrows (narrowed_by file.now) rows.old rows.new result }
+{
+    Totals::at(file, &[0]).narrow(0, rows)
+}
+
 // Twice each of two counts adds up to 3: three narrowings find that it cannot be, where an exact one finds it at once.
 pub fn both_limits_bind() -> ([Change; 3], [Row; 2])
     ensures rule { BothLimitsBind }
@@ -26,13 +36,9 @@ pub fn both_limits_bind() -> ([Change; 3], [Row; 2])
     let file = [
         2, 0, 3, 0, 0, 0, 0, 0, 0, 0, 3, 0, 0, 0, 0, 0, 0, 0, 0, 0, 2, 0, 0, 0, 1, 0, 2, 0, 0, 0,
     ];
-    let totals = Totals {
-        file: &file,
-        places: &[0],
-    };
     let mut rows = [Row { low: 0, high: 4 }, Row { low: 0, high: 4 }];
-    let first = totals.narrow(0, &mut rows);
-    let second = totals.narrow(0, &mut rows);
-    let third = totals.narrow(0, &mut rows);
+    let first = applied(&file, &mut rows);
+    let second = applied(&file, &mut rows);
+    let third = applied(&file, &mut rows);
     ([first, second, third], rows)
 }

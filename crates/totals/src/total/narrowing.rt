@@ -1,21 +1,35 @@
 // The narrowing of the rows of a total's cells.
-ghost use Rattle.std.specs.Prelude.{◌≡◌, ◌^◌, ◌<◌, ◌≤◌, true, length};
-ghost use Rattle.totals.specs.Read.{record_of};
-ghost use Rattle.totals.specs.Narrowing.{limits_of, new_rows, Open, Outcome};
+ghost use Rattle.std.specs.Prelude.{◌≡◌, ◌^◌, ◌<◌, ◌≤◌, true, length, slice_index};
+ghost use Rattle.totals.specs.Read.{record_of, weights};
+ghost use Rattle.totals.specs.Narrowing.{limits_of, new_rows, Opened, Outcome};
 
 use super::Total;
 use bounds::row::Row;
-use linear::limits::Limits;
+use linear::limits::{Limits, Open};
+use records::body::BodyKind;
+use records::totals::Totals;
 use rule_families::change::Change;
 
 impl Total<'_> {
+    // Kept: the weights lie in the file's bytes, so there is no slice of them to go over beside the rows.
+    #[tactic(auto, using(crate::proofs::Terms::weight_at, records::proofs::Fields::length_terms))]
+    fn weight(&self, i: usize) -> u32
+        requires within { i < length (record_of self.now).terms }
+        requires few { i < 64 }
+        ensures { result ≡ slice_index (weights self.now) i }
+    {
+        self.spot.u32(Totals::HEAD + 6 * i + 2)
+    }
+
     pub(super) fn limits(&self, own: &[Row]) -> Limits
         requires many { length own.now ≡ length (record_of self.now).terms }
         requires few { length own.now ≤ 64 }
         ensures value { result ≡ limits_of self.now own.now }
         ensures light { result.most < 2 ^ 63 }
     {
-        let mut limits = Limits::from_floor_to_ceiling(self.floor(), self.ceiling());
+        let head = Totals::read(self.spot);
+        let mut limits = Limits::from_floor_to_ceiling(head.floor, head.ceiling);
+        // Kept: that no sum of a `fold` wraps is not proved; the invariant of the loop shows it.
         for (i, row) in own.iter().enumerate() {
             limits = limits.weigh(self.weight(i), *row);
         }
@@ -23,14 +37,14 @@ impl Total<'_> {
     }
 
     // What the new bounds make of the rows, which are not written.
-    pub(super) fn outcome(&self, limits: Limits, own: &[Row]) -> Change
-        requires { Open self.now own.now limits }
+    pub(super) fn outcome(&self, limits: Open, own: &[Row]) -> Change
+        requires { Opened self.now own.now limits.sum }
         ensures { Outcome (new_rows self.now own.now) own.now result }
     {
         let mut change = Change::Quiet;
         for (i, row) in own.iter().enumerate() {
             let new = limits.bound(self.weight(i), *row);
-            if new.low > new.high {
+            if !new.is_sound() {
                 return Change::Void;
             }
             if new != *row {
@@ -40,12 +54,12 @@ impl Total<'_> {
         change
     }
 
-    pub(super) fn write(&self, limits: Limits, own: &mut [Row])
-        requires { Open self.now own.old limits }
+    pub(super) fn write(&self, limits: Open, own: &mut [Row])
+        requires { Opened self.now own.old limits.sum }
         ensures { own.new ≡ new_rows self.now own.old }
     {
-        for i in 0..own.len() {
-            own[i] = limits.bound(self.weight(i), own[i]);
+        for (i, row) in own.iter_mut().enumerate() {
+            *row = limits.bound(self.weight(i), *row);
         }
     }
 }

@@ -1,35 +1,53 @@
 // A total as a rule over the cells that it names.
+ghost use Rattle.std.specs.Prelude.{refl};
 ghost use Rattle.linear.specs.Totals.{total_scoped};
+ghost use Rattle.linear.proofs.TotalLaws.{total_laws, total_few};
 ghost use Rattle.totals.specs.Read.{record_of};
 
 use super::Total;
 use bounds::row::Row;
-use records::bytes::u16_at;
+use bounds::scope::Scope;
+use records::body::BodyKind;
+use records::totals::Totals;
 use rule_families::change::Change;
 use rules::named::Named;
+
+impl Scope for Total<'_> {
+    ghost scope = { λ t. (total_scoped (record_of t)).scope };
+
+    fn arity(&self) -> usize {
+        if !Totals::keeps_limits(self.spot) {
+            return 0;
+        }
+        Totals::arity(self.spot)
+    }
+
+    // Kept: only cells that there are are asked for, so one number is read; the record's `name` answers past them too, by its head.
+    #[tactic(auto, using(crate::proofs::Scope::named_cell))]
+    fn cell(&self, i: usize) -> usize {
+        usize::from(self.spot.u16(Totals::HEAD + 6 * i))
+    }
+}
 
 impl Named for Total<'_> {
     ghost scoped = { λ t. total_scoped (record_of t) };
 
-    fn arity(&self) -> usize {
-        if self.is_lawful() { self.count() } else { 0 }
-    }
+    ghost lawful = { λ t. total_laws (record_of t) };
 
-    fn cell(&self, i: usize) -> usize {
-        usize::from(u16_at(self.file, usize::from(self.place) + 18 + 6 * i))
-    }
+    ghost names_them = { λ t. refl };
+
+    ghost few = { λ t. total_few (record_of t) };
 
     fn narrow_own(&self, own: &mut [Row]) -> Change {
         // Only a rule that asks nothing names no cell.
         if own.is_empty() {
             return Change::Quiet;
         }
-        let limits = self.limits(own);
-        if limits.least > limits.ceiling || limits.most < limits.floor {
+        let Some(limits) = self.limits(own).open() else {
             return Change::Void;
-        }
+        };
         let change = self.outcome(limits, own);
-        if let Change::Narrowed = change {
+        if change == Change::Narrowed {
             self.write(limits, own);
         }
         change

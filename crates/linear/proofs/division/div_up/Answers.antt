@@ -48,12 +48,6 @@ module _ (a e : ℤ) (d : ℕ) (fits : SFits w64 a) (small : d < 2 ^ 32) (some :
   as_is : lt_z (pos 0) (read (rem_z (read a) (read e))) ≡ false → RoundedUp a (pos d) (read (quot_z (read a) (read e)))
   as_is t = subst (λ (z : ℤ). RoundedUp a (pos d) z) (sym quotient) (rounded_as_is a d some (rest-none t))
 
-pub overflow_add-result : goal.overflow_add-result
-overflow_add-result c =
-    let at : c.args.divisor < 2 ^ 32 = omega arith in
-    sum _ _ _ c.ranges.dividend at c.requires c.from-divisor.ensures
-    (positive _ _ _ c.ranges.dividend at c.requires c.from-divisor.ensures c.if-dividend-divisor-gt0.true)
-
 pub returns-then-dividend-divisor-gt0 : goal.returns-then-dividend-divisor-gt0
 returns-then-dividend-divisor-gt0 c =
     let at : c.args.divisor < 2 ^ 32 = omega arith in

@@ -1,37 +1,50 @@
-use Rattle.std.proofs.Common.{◌≡◌, ◌<◌, inl, inr, arith}
-use Rattle.plates.specs.Form.{most, reach}
-use Rattle.plates.proofs.Frames.{none_short, none_light, framed, fewest_is, reach_is}
+use Rattle.std.proofs.Common.{ℕ, ◌+◌, ◌<◌, ◌≤◌, arith, rules, tests}
+use Rattle.std.specs.Option.{MatchOption}
+use Rattle.std.proofs.lemmas.Iterator.{first_from_Range}
+use Rattle.plates.specs.Work.{sum_at}
+use Rattle.plates.proofs.Frames.{none_found, fewest_is, framed, small}
 use Rattle.plates.proofs.frame.Frame.of.Goals as goal
+use Rattle.plates.proofs.frame.Frame.of.Goals.{After-find}
 
-pub returns-then-most-fewest : goal.returns-then-most-fewest
-returns-then-most-fewest c =
-    let s = c.args.slots in let v = c.args.variety in let cs = c.args.counts.now in
-    let a = c.add_up-sums.ensures.sums in
-    let x : c.min-most.result ≡ most s v cs = omega arith in
-    let y = fewest_is s v cs c.add_up-sums.new.top c.add_up-sums.result a c.add_up-sums.ensures.tops
-    c.saturating_sub-least.result c.min-most.result c.first_from-fewest.result (omega arith) x c.first_from-fewest.ensures in
-    none_short s v cs (omega (arith, c.if-most-fewest.true))
+found : (c : After-find) → let s = c.add_up-certain in
+    MatchOption c.find.result ((k : ℕ) → c.saturating_sub-least.result ≤ k → k < c.min-most.result + 1 → sum_at s.new.top s.result.base k < c.from-floor.result)
+    (λ r. (c.saturating_sub-least.result ≤ r) × (r < c.min-most.result + 1) × (c.from-floor.result ≤ sum_at s.new.top s.result.base r)
+    × ((k : ℕ) → c.saturating_sub-least.result ≤ k → k < r → sum_at s.new.top s.result.base k < c.from-floor.result))
+found c = let s = c.add_up-certain in
+    first_from_Range _ _ _ _ (λ k. c.from-floor.result ≤ sum_at s.new.top s.result.base k) (λ k. sum_at s.new.top s.result.base k < c.from-floor.result) c.find.ensures.ran
+    (λ x q k. search (rules, tests)) (λ x q k. search (rules, tests))
 
-pub returns-then-sums-top : goal.returns-then-sums-top
-returns-then-sums-top c =
-    let s = c.args.slots in let v = c.args.variety in let cs = c.args.counts.now in
-    let a = c.add_up-sums.ensures.sums in
-    let x : c.min-most.result ≡ most s v cs = omega arith in
-    let y = fewest_is s v cs c.add_up-sums.new.top c.add_up-sums.result a c.add_up-sums.ensures.tops
-    c.saturating_sub-least.result c.min-most.result c.first_from-fewest.result (omega arith) x c.first_from-fewest.ensures in
-    let e = reach_is s v cs c.add_up-sums.new.top c.add_up-sums.result a c.add_up-sums.ensures.tops c.first_from-fewest.result (omega arith) in
-    let h : reach cs c.first_from-fewest.result < s.low = omega (arith, c.if-sums-top.true) in
-    none_light s v cs (rw y at h)
+pub returns-in_err-fewest : goal.returns-in_err-fewest
+returns-in_err-fewest c =
+    let s = c.add_up-certain in
+    let f = rw c.in_err-fewest.was at (found (goal.at.returns-in_err-fewest c).After-find) in
+    rw c.from_residual-in_err-fewest.ensures (none_found c.args.slots c.args.variety c.args.counts.now s.new.top s.result s.ensures.sums s.ensures.tops
+    c.saturating_sub-least.result c.min-most.result (omega arith) (omega arith) (λ j p q. omega (arith, f j p (omega arith))))
+
+pub bounds-top-saturating_sub : goal.bounds-top-saturating_sub
+bounds-top-saturating_sub c = let f = rw c.in_ok-fewest.was at (found (goal.at.bounds-top-saturating_sub c).After-find) in omega arith
+
+pub overflow_add-result : goal.overflow_add-result
+overflow_add-result c =
+    let f = rw c.in_ok-fewest.was at (found (goal.at.overflow_add-result c).After-find) in
+    let l = c.add_up-certain.ensures.tops.limit c.saturating_sub.result (omega arith) in
+    omega arith
+
+pub invariant_of-result : goal.invariant_of-result
+invariant_of-result c =
+    let s = c.add_up-certain in
+    let f = rw c.in_ok-fewest.was at (found (goal.at.invariant_of-result c).After-find) in
+    small c.args.slots c.args.variety c.args.counts.now s.new.top s.result s.ensures.sums s.ensures.tops
+    c.from-floor.result c.from-ceiling.result c.min-most.result c.in_ok-fewest.fewest c.min-2.result c.saturating_sub.result c.from-floor.ensures c.from-ceiling.ensures (omega arith)
+    (omega arith) (omega arith) (omega arith) (omega arith) (omega arith) (omega arith) (omega arith) _
 
 pub returns : goal.returns
 returns c =
-    let s = c.args.slots in let v = c.args.variety in let cs = c.args.counts.now in
-    let a = c.add_up-sums.ensures.sums in
-    let x : c.min-most.result ≡ most s v cs = omega arith in
-    let y = fewest_is s v cs c.add_up-sums.new.top c.add_up-sums.result a c.add_up-sums.ensures.tops
-    c.saturating_sub-least.result c.min-most.result c.first_from-fewest.result (omega arith) x c.first_from-fewest.ensures in
-    framed s v cs c.add_up-sums.new.top c.add_up-sums.result a c.add_up-sums.ensures.tops
-    c.min-most.result c.first_from-fewest.result x y c.if-most-sums.over c.saturating_sub.result c.saturating_sub.ensures
-    (omega arith) (omega arith) c.if-most-fewest.false c.if-sums-top.false
-    (elim c.if-most-sums.branch [ goal.then-most-sums w ↦ inl (w.if-most-sums.true, w.over-is) | goal.else-most-sums w ↦ inr (w.if-most-sums.false, w.over-is) ])
-    (omega arith) (omega arith) (omega arith)
+    let s = c.add_up-certain in
+    let f = rw c.in_ok-fewest.was at (found (goal.at.returns c).After-find) in
+    framed c.args.slots c.args.variety c.args.counts.now s.new.top s.result s.ensures.sums s.ensures.tops
+    c.from-floor.result c.from-ceiling.result c.min-most.result c.in_ok-fewest.fewest c.min-2.result c.saturating_sub.result c.from-floor.ensures c.from-ceiling.ensures (omega arith)
+    (omega arith) (omega arith) (omega arith) (omega arith)
+    (fewest_is c.args.slots c.args.variety c.args.counts.now s.new.top s.result s.ensures.sums s.ensures.tops c.saturating_sub-least.result c.min-most.result (omega arith) (omega arith)
+    c.in_ok-fewest.fewest (omega arith) (omega arith) (omega arith) (λ j p q. omega (arith, f.3 j p q)))
+    (omega arith) (omega arith)

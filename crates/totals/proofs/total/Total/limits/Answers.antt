@@ -1,21 +1,9 @@
-use Rattle.std.proofs.Common.{◌+◌, ◌*◌, [], get_or, ap, ◌∙◌, ap₂, arith}
+use Rattle.std.proofs.Common.{◌+◌, ◌*◌, get_or, ap, ◌∙◌, arith}
 use lib.ListN.{length-map}
-use Rattle.std.proofs.lemmas.List.{take_all}
 use Rattle.bounds.specs.Boards.{none_row}
-use Rattle.linear.specs.Linear.{limits}
-use Rattle.linear.proofs.Weights.{limits_none, limits_more}
+use Rattle.linear.proofs.Weights.{limits_more}
 use Rattle.totals.specs.Read.{record_of, weights}
-use Rattle.totals.specs.Narrowing.{limits_of}
 use Rattle.totals.proofs.total.Total.limits.Goals as goal
-
-pub loop-i-init : goal.loop-i-init
-loop-i-init c =
-    let t = c.args.self.now in
-    let start = c.from_floor_to_ceiling-limits.ensures in (
-      start ∙ (ap₂ (λ f g. limits [] f g []) c.floor.ensures c.ceiling.ensures ∙ limits_none (weights t) (record_of t).floor (record_of t).ceiling),
-      omega (arith, ap (λ x. x.least) start),
-      omega (arith, ap (λ x. x.most) start),
-    )
 
 pub loop-i-preserved : goal.loop-i-preserved
 loop-i-preserved c =
@@ -32,11 +20,3 @@ loop-i-preserved c =
       omega arith,
       omega arith,
     )
-
-pub returns : goal.returns
-returns c =
-    let t = c.args.self.now in
-    record {
-      value = c.loop-i.invariant.0 ∙ ap (limits_of t) (take_all c.loop-i.i c.args.own.now c.loop-i-test.false);
-      light = omega arith;
-    }

@@ -1,4 +1,5 @@
 use Rattle.std.proofs.Common.{◌+◌, ◌≤◌, get_or, sym, refl, ap, ◌∙◌, subst, arith}
+use Rattle.std.proofs.lemmas.Bool.{leb-true, leb-false}
 use Rattle.bounds.specs.Boards.{none_row}
 use Rattle.bounds.proofs.Places.{low_at, high_at}
 use Rattle.rule_families.specs.declared.change.Change.{Change}
@@ -11,24 +12,25 @@ use Rattle.totals.proofs.total.Total.outcome.Goals as goal
 pub bound-new-requires : goal.bound-new-requires
 bound-new-requires c =
     let o = c.requires in
-    let r = ready c.args.self.now c.args.own.now c.args.limits o c.loop-i.i c.weight.result c.loop-i-test.true c.weight.ensures in
-    record { weight = r.weight; low = r.low; high = r.high; floor = o.high; ceiling = o.low; small = o.light }
+    let r = ready c.args.self.now c.args.own.now c.args.limits.sum o c.loop-i.i c.weight.result c.loop-i-test.true c.weight.ensures in
+    record { weight = r.weight; low = r.low; high = r.high }
 
-pub returns-then-new : goal.returns-then-new
-returns-then-new c =
+pub returns-then-not-is_sound : goal.returns-then-not-is_sound
+returns-then-not-is_sound c =
     let t = c.args.self.now in
     let a = c.args.own.now in
-    let new = new_at t a c.args.limits c.requires c.loop-i.i c.weight.result c.loop-i-test.true c.weight.ensures c.bound-new.result c.bound-new.ensures in
-    far_void (new_rows t a) a (new_length t a c.args.limits c.requires) c.loop-i.i c.loop-i-test.true
-    (omega (arith, ap (λ x. x.low) new, ap (λ x. x.high) new))
+    let new = new_at t a c.args.limits.sum c.requires c.loop-i.i c.weight.result c.loop-i-test.true c.weight.ensures c.bound-new.result c.bound-new.ensures in
+    far_void (new_rows t a) a (new_length t a c.args.limits.sum c.requires) c.loop-i.i c.loop-i-test.true
+    (omega (arith, leb-false _ _ (sym c.is_sound.ensures ∙ c.if-not-is_sound.true), ap (λ x. x.low) new, ap (λ x. x.high) new))
 
 pub loop-i-preserved : goal.loop-i-preserved
 loop-i-preserved c =
     let t = c.args.self.now in
     let a = c.args.own.now in
     let i = c.loop-i.i in
-    let new = new_at t a c.args.limits c.requires i c.weight.result c.loop-i-test.true c.weight.ensures c.bound-new.result c.bound-new.ensures in
-    let sound : low_at (new_rows t a) i ≤ high_at (new_rows t a) i = omega (arith, ap (λ r. r.low) new, ap (λ r. r.high) new) in
+    let new = new_at t a c.args.limits.sum c.requires i c.weight.result c.loop-i-test.true c.weight.ensures c.bound-new.result c.bound-new.ensures in
+    let sound : low_at (new_rows t a) i ≤ high_at (new_rows t a) i =
+    omega (arith, leb-true _ _ (sym c.is_sound.ensures ∙ c.if-not-is_sound.false), ap (λ r. r.low) new, ap (λ r. r.high) new) in
     let Next : Change → Type 0 = Far (new_rows t a) a (i + 1) in
     elim c.if-ne.branch [
       | goal.then-ne w ↦ subst Next (sym w.change-is)
@@ -41,4 +43,4 @@ pub returns : goal.returns
 returns c =
     let t = c.args.self.now in
     let a = c.args.own.now in
-    far_all (new_rows t a) a (new_length t a c.args.limits c.requires) c.loop-i.i c.loop-i.change c.loop-i-test.false c.loop-i.invariant
+    far_all (new_rows t a) a (new_length t a c.args.limits.sum c.requires) c.loop-i.i c.loop-i.change c.loop-i-test.false c.loop-i.invariant

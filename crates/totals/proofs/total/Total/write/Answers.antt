@@ -13,9 +13,9 @@ bound-requires c =
     let o = c.requires in
     let i = c.loop-i.i in
     let same = c.loop-i.invariant.1 i (omega arith) in
-    let r = subst (λ (x : Row). Ready c.args.limits c.weight.result x) (sym same)
-    (ready c.args.self.now c.args.own.now c.args.limits o i c.weight.result c.loop-i-test.true c.weight.ensures) in
-    record { weight = r.weight; low = r.low; high = r.high; floor = o.high; ceiling = o.low; small = o.light }
+    let r = subst (λ (x : Row). Ready c.args.limits.sum c.weight.result x) (sym same)
+    (ready c.args.self.now c.args.own.now c.args.limits.sum o i c.weight.result c.loop-i-test.true c.weight.ensures) in
+    record { weight = r.weight; low = r.low; high = r.high }
 
 pub loop-i-preserved : goal.loop-i-preserved
 loop-i-preserved c =
@@ -25,8 +25,8 @@ loop-i-preserved c =
     let i = c.loop-i.i in
     let within : i < length b = omega arith in
     let same = c.loop-i.invariant.1 i (omega arith) in
-    let new = new_at t a c.args.limits c.requires i c.weight.result c.loop-i-test.true c.weight.ensures c.bound.result
-    (c.bound.ensures ∙ ap (bounded c.args.limits c.weight.result) same) in (
+    let new = new_at t a c.args.limits.sum c.requires i c.weight.result c.loop-i-test.true c.weight.ensures c.bound.result
+    (c.bound.ensures ∙ ap (bounded c.args.limits.sum c.weight.result) same) in (
       below_more _ i
           (λ k h. let other : k ≢ i = omega arith in get_or-set_other b i k c.bound.result none_row other ∙ c.loop-i.invariant.0 k h)
           (get_or-set_same b i c.bound.result none_row within ∙ sym new),
@@ -37,5 +37,5 @@ pub returns : goal.returns
 returns c =
     let t = c.args.self.now in
     let a = c.args.own.now in
-    let e = new_length t a c.args.limits c.requires in
+    let e = new_length t a c.args.limits.sum c.requires in
     same_rows c.loop-i.own (new_rows t a) (omega arith) (λ k h. c.loop-i.invariant.0 k (omega arith))
