@@ -4,14 +4,10 @@ use Rattle.bounds.specs.declared.row.Row.{Row}
 use Rattle.bounds.specs.Laws.{Meaning}
 use Rattle.bounds.specs.Beside.{beside}
 use Rattle.board.specs.declared.board.Board.{Board}
-use Rattle.rule_families.specs.declared.beside.Beside.{Beside}
 use Rattle.board.specs.Calls.{State, as_read}
 use Rattle.board.specs.Held.{state}
-use Rattle.plates.specs.declared.family.Plates.{Plates}
 use Rattle.plates.specs.Plates.{plates}
-use Rattle.triples.specs.declared.family.Triples.{Triples}
 use Rattle.triples.specs.Triples.{triples}
-use Rattle.totals.specs.declared.family.Totals.{Totals}
 use Rattle.linear.specs.Totals.{totals}
 use Rattle.job.specs.declared.job.Job.{Job}
 use Rattle.job.specs.Jobs.{job_file, job_found}
@@ -22,19 +18,19 @@ use Rattle.run.specs.declared.call.Call.TheVariants.{Settle, Seek}
 use Rattle.run.specs.declared.answer.Answer.{Answer}
 use Rattle.run.specs.Runs.{Leads}
 use Rattle.run.specs.Scripts.{Ran}
-use Rattle.console.specs.Jobs.{job_meaning, JobRules}
+use Rattle.console.specs.Jobs.{JobFamilies, job_meaning, JobRules}
 use Rattle.console.specs.Reports.{Planned}
 
 -- what the families mean
-abbrev pub meant : Beside Plates (Beside Triples Totals) → Meaning
-meant r = beside (plates r.first.file.now r.first.places.now)
-    (beside (triples r.second.first.file.now r.second.first.places.now) (totals r.second.second.file.now r.second.second.places.now))
+abbrev pub meant : JobFamilies → Meaning
+meant r = beside (plates r.first.0.file.now r.first.0.places.now)
+    (beside (triples r.second.first.0.file.now r.second.first.0.places.now) (totals r.second.second.0.file.now r.second.second.0.places.now))
 
-module _ (f : List ℕ) (j : Job) (rules : Beside Plates (Beside Triples Totals)) (on : job_file j ≡ f) (read : reading f ≡ granted (job_found j))
+module _ (f : List ℕ) (j : Job) (rules : JobFamilies) (on : job_file j ≡ f) (read : reading f ≡ granted (job_found j))
     (are : JobRules (job_file j) (job_found j) rules) where
   means : meant rules ≡ job_meaning f (job_found j)
-  means = λ i. beside (plates ((are.plates_file ∙ on) i) (are.plates_at i))
-      (beside (triples ((are.triples_file ∙ on) i) (are.triples_at i)) (totals ((are.totals_file ∙ on) i) (are.totals_at i)))
+  means = λ i. beside (plates ((are.plates.file ∙ on) i) (are.plates.at i))
+      (beside (triples ((are.triples.file ∙ on) i) (are.triples.at i)) (totals ((are.totals.file ∙ on) i) (are.totals.at i)))
 
   rows_are : job_rows j ≡ map (row_at f) (job_found j).cells
   unfolding job_rows

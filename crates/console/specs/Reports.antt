@@ -1,5 +1,5 @@
 -- What a report says of a job's file.
-use Rattle.std.specs.Prelude.{◌≡◌, ℕ, Bool, true, false, cond, ◌⊎◌, List, [], ◌∷◌, map, length, vec_items}
+use Rattle.std.specs.Prelude.{◌≡◌, ℕ, cond, ◌⊎◌, List, [], ◌∷◌, map, length, Ok, Err, vec_items, Result}
 use Rattle.bounds.specs.declared.row.Row.{Row}
 use Rattle.board.specs.Calls.{State, Event, as_read}
 use Rattle.records.specs.declared.refused.Refused.{Refused}
@@ -11,7 +11,8 @@ use Rattle.run.specs.declared.answer.Answer.{Answer}
 use Rattle.run.specs.Runs.{Leads}
 use Rattle.run.specs.Scripts.{Logs}
 use Rattle.console.specs.declared.report.Report.{Report}
-use Rattle.console.specs.declared.report.Report.TheVariants as report
+use Rattle.console.specs.declared.unplanned.Unplanned.{Unplanned}
+use Rattle.console.specs.declared.unplanned.Unplanned.TheVariants as unplanned
 use Rattle.console.specs.Jobs.{job_meaning}
 
 -- line 8, for a job that the memory has no room for, at the file's length
@@ -30,11 +31,8 @@ pub record Planned (f : List ℕ) (g : Found) (answers : List Answer) (bounds : 
   pub leads : Leads (job_meaning f g) (as_read (map (row_at f) g.cells)) events left
   pub bounds_are : bounds ≡ cond left.is_void [] left.rows
 
--- a refused file has its fault told; another is refused for want of room alone, or is planned
-abbrev pub Told : List ℕ → Report → Type 0
-Told f (report.Refused r) = (reading f ≡ refused r) ⊎ (((g : Found) × (reading f ≡ granted g)) × (r ≡ no_room f))
-Told f (report.Planned answers bounds) = (g : Found) × Planned f g (vec_items answers) (vec_items bounds)
-
-abbrev pub refused_report : Report → Bool
-refused_report (report.Refused r) = true
-refused_report (report.Planned answers bounds) = false
+-- a refused file has its fault told; another is refused for want of room alone, or is planned, if the heap has memory for that
+abbrev pub Told : List ℕ → Result Report Unplanned → Type 0
+Told f (Ok r) = (g : Found) × Planned f g (vec_items r.answers) (vec_items r.bounds)
+Told f (Err (unplanned.Refused r)) = (reading f ≡ refused r) ⊎ (((g : Found) × (reading f ≡ granted g)) × (r ≡ no_room f))
+Told f (Err (unplanned.Memory e)) = Unit {0}

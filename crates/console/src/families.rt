@@ -16,19 +16,10 @@ pub fn rules_of<'j, 'f>(job: &'j Job<'f>) -> Families<'j>
 {
     let file = job.file();
     Beside {
-        first: Plates {
-            file,
-            places: job.plate_places(),
-        },
+        first: Plates::at(file, job.plate_places()),
         second: Beside {
-            first: Triples {
-                file,
-                places: job.triple_places(),
-            },
-            second: Totals {
-                file,
-                places: job.total_places(),
-            },
+            first: Triples::at(file, job.triple_places()),
+            second: Totals::at(file, job.total_places()),
         },
     }
 }

@@ -3,3 +3,4 @@
 pub mod families;
 pub mod report;
 pub mod room;
+pub mod unplanned;

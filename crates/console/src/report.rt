@@ -1,10 +1,11 @@
-// What is printed of a job: why it is refused, or its settled bounds and its first plan.
+// What is printed of a job that is planned: its settled bounds and its first plan.
 ghost use Rattle.std.specs.Prelude.{◌≡◌, ◌≤◌, [], length, IfOk, if◌then◌else◌};
 ghost use Rattle.board.specs.Held.{state};
-ghost use Rattle.console.specs.Reports.{Told, no_room, refused_report};
+ghost use Rattle.console.specs.Reports.{Told, no_room};
 
 use crate::families::rules_of;
 use crate::room::Room;
+use crate::unplanned::Unplanned;
 use board::board::Board;
 use boards::board_of;
 use bounds::row::Row;
@@ -16,49 +17,39 @@ use run::script::run;
 use std::alloc::{AllocError, Global};
 use std::fmt;
 
-#[derive(Drop)]
-pub enum Report {
-    Refused(Refused),
-    // The answers to a settle and a seek, and the bounds that were left.
-    Planned {
-        answers: Vec<Answer>,
-        bounds: Vec<Row>,
-    },
+// The answers to a settle and a seek, and the bounds that were left.
+// Kept: a void board has no bounds to print, which is said by none in the list as well as by an Option of one.
+#[derive(PartialEq, Eq, Debug, Drop)]
+pub struct Report {
+    pub answers: Vec<Answer>,
+    pub bounds: Vec<Row>,
 }
 
 // Reads the job, settles its board and seeks the first plan, in the memory that is lent.
-pub fn plan_job(heap: Global, file: &[u8], room: Room) -> Result<Report, AllocError>
-    ensures { IfOk result (λ report. Told file.now report) }
+pub fn plan_job(heap: Global, file: &[u8], room: Room) -> Result<Report, Unplanned>
+    ensures { Told file.now result }
 {
-    let job = match Job::read(file) {
-        Ok(job) => job,
-        Err(fault) => return Ok(Report::Refused(fault.refused())),
-    };
+    let job = Job::read(file)?;
     let Room {
         rows,
         saved,
         mut plan,
         mut scratch,
     } = room;
-    let mut board = match board_of(&job, rows, saved) {
-        Ok(board) => board,
-        Err(_) => return Ok(Report::Refused(room_refused(file))),
+    let Ok(mut board) = board_of(&job, rows, saved) else {
+        return Err(Unplanned::Refused(room_refused(file)));
     };
     let script = [Call::Settle, Call::Seek];
-    match run(
+    let answers = run(
         heap,
         &mut board,
         &rules_of(&job),
         &script,
         &mut plan,
         &mut scratch,
-    ) {
-        Ok(answers) => Ok(Report::Planned {
-            answers,
-            bounds: bounds_left(heap, &board)?,
-        }),
-        Err(_) => Err(AllocError),
-    }
+    )?;
+    let bounds = bounds_left(heap, &board)?;
+    Ok(Report { answers, bounds })
 }
 
 // The refusal of a job that the memory has no room for: line 8, at the file's length.
@@ -82,33 +73,12 @@ fn bounds_left(heap: Global, board: &Board) -> Result<Vec<Row>, AllocError>
     Vec::from_slice(heap, board.rows())
 }
 
-impl Report {
-    pub fn is_refused(&self) -> bool
-        ensures { result ≡ refused_report self.now }
-    {
-        match self {
-            Report::Refused(_) => true,
-            Report::Planned { .. } => false,
-        }
-    }
-}
-
 impl fmt::Display for Report {
     fn fmt<W: fmt::Write>(&self, f: &mut fmt::Formatter<W>) -> fmt::Result {
-        match self {
-            Report::Refused(refused) => {
-                let number = refused.number;
-                let kind = refused.kind;
-                let place = refused.place;
-                writeln!(f, "refused {number} {kind} {place}")
-            }
-            Report::Planned { answers, bounds } => {
-                for answer in answers {
-                    write_planned(f, answer, bounds)?;
-                }
-                Ok(())
-            }
+        for answer in &self.answers {
+            write_planned(f, answer, &self.bounds)?;
         }
+        Ok(())
     }
 }
 
@@ -127,9 +97,8 @@ fn write_planned<W: fmt::Write>(
             writeln!(f, "narrowings {narrowings}")?;
             writeln!(f, "void")
         }
-        Answer::Plan(counts) => write_plan(f, counts),
         Answer::NoPlan if bounds.is_empty() => Ok(()),
-        Answer::NoPlan => writeln!(f, "no plan"),
+        Answer::Plan(_) | Answer::NoPlan => writeln!(f, "{answer}"),
         _ => Ok(()),
     }
 }
@@ -141,12 +110,4 @@ fn write_bounds<W: fmt::Write>(f: &mut fmt::Formatter<W>, bounds: &[Row]) -> fmt
         writeln!(f, "{cell} {low} {high}")?;
     }
     Ok(())
-}
-
-fn write_plan<W: fmt::Write>(f: &mut fmt::Formatter<W>, counts: &[u16]) -> fmt::Result {
-    write!(f, "plan")?;
-    for count in counts {
-        write!(f, " {count}")?;
-    }
-    writeln!(f)
 }

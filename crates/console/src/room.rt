@@ -4,6 +4,9 @@ ghost use Rattle.std.specs.Prelude.{◌≡◌, ◌+◌, ◌*◌, IfOk, vec_len};
 use bounds::row::Row;
 use std::alloc::{AllocError, Global};
 
+// The most cells of a job that the planner has room for.
+pub const MOST_PLANNED: u16 = 100;
+
 #[derive(Drop)]
 pub struct Room {
     pub rows: Vec<Row>,
@@ -17,10 +20,11 @@ impl Room {
     pub fn for_cells(heap: Global, cells: u16) -> Result<Room, AllocError>
         ensures { IfOk result (λ m. (vec_len m.rows ≡ cells) × (vec_len m.saved ≡ 16 * cells) × (vec_len m.plan ≡ cells) × (vec_len m.scratch ≡ (cells + 1) * cells)) }
     {
-        let none = Row { low: 0, high: 0 };
+        let none = Row::default();
         let cells = usize::from(cells);
         Ok(Room {
             rows: vec![in heap; none; cells]?,
+            // Kept: 16 trials, a number that boards do not hand out.
             saved: vec![in heap; none; 16 * cells]?,
             plan: vec![in heap; 0; cells]?,
             scratch: vec![in heap; none; (cells + 1) * cells]?,

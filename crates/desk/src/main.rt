@@ -4,21 +4,17 @@
 mod lines;
 
 use anyhow::anyhow;
-use board::board::Board;
 use boards::board_of;
-use bounds::row::Row;
-use console::families::{Families, rules_of};
+use console::families::rules_of;
 use console::room::Room;
 use job::job::Job;
-use lines::{Line, number_of, read_line};
-use run::answer::Answer;
-use run::call::Call;
+use lines::{Line, NoCall};
 use run::script::run;
-use std::alloc::AllocError;
 use std::io::{BufRead, BufReader};
-use std::{env, fs, io};
+use std::{env, fs};
 
 // The desk has room for every board.
+// Kept: the most cells of a board as the type that a room takes, since a constant cannot be made of one by try_from.
 const MOST_CELLS: u16 = 1024;
 
 const HELP: &str =
@@ -34,10 +30,7 @@ fn main(rt: HostRuntime) -> anyhow::Result<()> {
     match Job::read(&file) {
         Ok(job) => answer_all(&rt, &job),
         Err(fault) => {
-            let number = fault.number();
-            let kind = fault.kind();
-            let place = fault.place();
-            println!(rt; "refused {number} {kind} {place}")?;
+            rt.println(&fault.refused())?;
             Err(anyhow!("the job is refused"))
         }
     }
@@ -51,64 +44,22 @@ fn answer_all(rt: &HostRuntime, job: &Job<'_>) -> anyhow::Result<()> {
         mut plan,
         mut scratch,
     } = Room::for_cells(heap, MOST_CELLS)?;
-    let mut board = match board_of(job, rows, saved) {
-        Ok(board) => board,
-        Err(_) => return Err(anyhow!("the desk has no room for the job")),
+    let Ok(mut board) = board_of(job, rows, saved) else {
+        return Err(anyhow!("the desk has no room for the job"));
     };
     let rules = rules_of(job);
-    let mut number: u64 = 0;
-    for line in BufReader::new(heap, rt.stdin())?.lines(heap) {
+    let lines = BufReader::new(heap, rt.stdin())?.lines(heap);
+    for (number, line) in (1u64..).zip(lines) {
         let line = line?;
-        number = number.saturating_add(1);
-        match read_line(line.as_str()) {
-            Line::Call(call) => answer_one(rt, &mut board, &rules, call, &mut plan, &mut scratch)?,
-            Line::Help => rt.print(HELP)?,
-            Line::NoCall => {
-                let text = line.as_str();
-                println!(rt; "not a call: line {number}: {text}")?;
+        match line.as_str().parse() {
+            Ok(Line::Call(call)) => {
+                for answer in &run(heap, &mut board, &rules, &[call], &mut plan, &mut scratch)? {
+                    rt.println(answer)?;
+                }
             }
+            Ok(Line::Help) => rt.print(HELP)?,
+            Err(NoCall) => println!(rt; "not a call: line {number}: {line}")?,
         }
     }
     Ok(())
-}
-
-fn answer_one(
-    rt: &HostRuntime,
-    board: &mut Board,
-    rules: &Families<'_>,
-    call: Call,
-    plan: &mut [u16],
-    scratch: &mut [Row],
-) -> anyhow::Result<()> {
-    match run(rt.alloc(), board, rules, &[call], plan, scratch) {
-        Ok(answers) => {
-            for answer in &answers {
-                show(rt, answer)?;
-            }
-            Ok(())
-        }
-        Err(_) => Err(anyhow!("no memory for the answer")),
-    }
-}
-
-fn show(rt: &HostRuntime, answer: &Answer) -> io::Result<()> {
-    match answer {
-        Answer::Granted => println!(rt; "granted"),
-        Answer::Slip(serial) => println!(rt; "slip {serial}"),
-        Answer::Cell { cell, low, high } => println!(rt; "{cell} {low} {high}"),
-        Answer::Settled(applied) => println!(rt; "settled {applied}"),
-        Answer::Void(applied) => println!(rt; "void {applied}"),
-        Answer::Plan(counts) => {
-            print!(rt; "plan")?;
-            for count in counts {
-                print!(rt; " {count}")?;
-            }
-            println!(rt; "")
-        }
-        Answer::NoPlan => println!(rt; "no plan"),
-        Answer::Refused(why) => {
-            let number = number_of(*why);
-            println!(rt; "refused {number}")
-        }
-    }
 }

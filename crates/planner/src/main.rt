@@ -3,20 +3,19 @@
 
 use anyhow::anyhow;
 use console::report::plan_job;
-use console::room::Room;
+use console::room::{MOST_PLANNED, Room};
+use console::unplanned::Unplanned;
 use std::io::Read;
-
-// The most cells of a job that the planner has room for.
-const MOST_CELLS: u16 = 100;
 
 fn main(rt: HostRuntime) -> anyhow::Result<()> {
     let heap = rt.alloc();
     let mut file = Vec::new(heap);
     rt.stdin().read_to_end(&mut file)?;
-    let report = plan_job(heap, &file, Room::for_cells(heap, MOST_CELLS)?)?;
-    rt.print(&report)?;
-    if report.is_refused() {
-        return Err(anyhow!("the job is refused"));
+    match plan_job(heap, &file, Room::for_cells(heap, MOST_PLANNED)?) {
+        Err(Unplanned::Refused(refused)) => {
+            rt.println(&refused)?;
+            Err(anyhow!("the job is refused"))
+        }
+        planned => Ok(rt.print(&planned?)?),
     }
-    Ok(())
 }

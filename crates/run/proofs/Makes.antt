@@ -1,5 +1,5 @@
 -- A call of a script that was made, by what the board's call ensures.
-use Rattle.std.proofs.Common.{◌≡◌, ℕ, ◌+◌, ◌-◌, ◌*◌, ◌≤◌, false, ltb, leb, List, ◌++◌, length, take, drop, is_ok, Ok, Err, vec_items, Result, Vec, sym, refl, ap, ◌∙◌, subst, ap₂, mul-le-mul_right, arith}
+use Rattle.std.proofs.Common.{◌≡◌, ℕ, ◌+◌, ◌-◌, ◌*◌, ◌≤◌, Bool, true, false, ltb, leb, List, ◌++◌, length, take, drop, is_ok, Ok, Err, vec_items, Result, Vec, sym, refl, ap, ◌∙◌, subst, ap₂, mul-le-mul_right, arith}
 use Rattle.std.specs.declared.alloc.Global.{Global}
 use Rattle.std.proofs.lemmas.List.{drop-drop, take-append-drop, length-take-le}
 use Rattle.std.proofs.lemmas.Bool.{true≢false, ltb-true, leb-true}
@@ -13,11 +13,9 @@ use Rattle.settling.specs.declared.settled.Settled.{Settled}
 use Rattle.settling.specs.declared.settled.Settled.TheVariants as settle
 use Rattle.board.specs.Calls as calls
 use Rattle.board.specs.Calls.{Event, Does, opened, found, none_found}
-use Rattle.board.specs.Held.{state, Frame, Outside, event_of_tighten, event_of_open, event_of_keep, event_of_drop, event_of_ask, event_of_settle}
+use Rattle.board.specs.Held.{state, Did, Frame, Outside, event_of_tighten, event_of_open, event_of_keep, event_of_drop, event_of_ask, event_of_settle}
 use Rattle.board.proofs.Slots.{length_trials}
 use Rattle.search.specs.Seeks.{event_of_seek, Memory}
-use Rattle.search.specs.declared.sought.Sought.{Sought}
-use Rattle.search.specs.declared.sought.Sought.TheVariants as sought
 use Rattle.run.specs.declared.call.Call.{Call}
 use Rattle.run.specs.declared.call.Call.TheVariants as call
 use Rattle.run.specs.declared.answer.Answer.{Answer}
@@ -71,24 +69,24 @@ module _ (m : Meaning) (laws : FiveLaws m) (b c : Board) (p : List ℕ) (scratch
   is_call y e = ap (call_of (length p) (length scratch)) (sym e)
 
   pub made_tighten : (i l h : ℕ) (r : Result (Unit {0}) Refusal) → x ≡ call.Tighten i l h → a ≡ of_grant r
-      → Does m (state b) (event_of_tighten i l h r) (state c) → Stays b c → Made m b c p p scratch scratch x a
-  made_tighten i l h (Ok u) ex ea d s = made p scratch (event_of_tighten i l h (Ok u)) (is_call _ ex) ea d s refl (λ _. refl)
-  made_tighten i l h (Err e) ex ea d s = made p scratch (event_of_tighten i l h (Err e)) (is_call _ ex) (e, refl, ea) d s refl (λ _. refl)
+      → Did b (event_of_tighten i l h r) c → Frame b c → vec_items c.saved ≡ vec_items b.saved → Made m b c p p scratch scratch x a
+  made_tighten i l h (Ok u) ex ea d f s = made p scratch (event_of_tighten i l h (Ok u)) (is_call _ ex) ea (d m) (stays_saved b c f s) refl (λ _. refl)
+  made_tighten i l h (Err e) ex ea d f s = made p scratch (event_of_tighten i l h (Err e)) (is_call _ ex) (e, refl, ea) (d m) (stays_saved b c f s) refl (λ _. refl)
 
   pub made_open : (r : Result Slip Refusal) → x ≡ call.Open → a ≡ of_open r
-      → Does m (state b) (event_of_open r) (state c) → Stays b c → Made m b c p p scratch scratch x a
-  made_open (Ok u) ex ea d s = made p scratch (event_of_open (Ok u)) (is_call _ ex) ea d s refl (λ _. refl)
-  made_open (Err e) ex ea d s = made p scratch (event_of_open (Err e)) (is_call _ ex) (e, refl, ea) d s refl (λ _. refl)
+      → Did b (event_of_open r) c → Frame b c → Outside b c b.control.depth → (is_ok r ≡ false → vec_items c.saved ≡ vec_items b.saved) → Made m b c p p scratch scratch x a
+  made_open (Ok u) ex ea d f o s = made p scratch (event_of_open (Ok u)) (is_call _ ex) ea (d m) (stays_opened b c f m (Ok u) (d m) o s) refl (λ _. refl)
+  made_open (Err e) ex ea d f o s = made p scratch (event_of_open (Err e)) (is_call _ ex) (e, refl, ea) (d m) (stays_opened b c f m (Err e) (d m) o s) refl (λ _. refl)
 
   pub made_keep : (k : ℕ) (slip : Slip) (r : Result (Unit {0}) Refusal) → x ≡ call.Keep k → slip.serial ≡ k → a ≡ of_grant r
-      → Does m (state b) (event_of_keep slip r) (state c) → Stays b c → Made m b c p p scratch scratch x a
-  made_keep k slip (Ok u) ex is ea d s = made p scratch (event_of_keep slip (Ok u)) (ap calls.keep is ∙ is_call _ ex) ea d s refl (λ _. refl)
-  made_keep k slip (Err e) ex is ea d s = made p scratch (event_of_keep slip (Err e)) (ap calls.keep is ∙ is_call _ ex) (e, refl, ea) d s refl (λ _. refl)
+      → Did b (event_of_keep slip r) c → Frame b c → vec_items c.saved ≡ vec_items b.saved → Made m b c p p scratch scratch x a
+  made_keep k slip (Ok u) ex is ea d f s = made p scratch (event_of_keep slip (Ok u)) (ap calls.keep is ∙ is_call _ ex) ea (d m) (stays_saved b c f s) refl (λ _. refl)
+  made_keep k slip (Err e) ex is ea d f s = made p scratch (event_of_keep slip (Err e)) (ap calls.keep is ∙ is_call _ ex) (e, refl, ea) (d m) (stays_saved b c f s) refl (λ _. refl)
 
   pub made_drop : (k : ℕ) (slip : Slip) (r : Result (Unit {0}) Refusal) → x ≡ call.Drop k → slip.serial ≡ k → a ≡ of_grant r
-      → Does m (state b) (event_of_drop slip r) (state c) → Stays b c → Made m b c p p scratch scratch x a
-  made_drop k slip (Ok u) ex is ea d s = made p scratch (event_of_drop slip (Ok u)) (ap calls.drop is ∙ is_call _ ex) ea d s refl (λ _. refl)
-  made_drop k slip (Err e) ex is ea d s = made p scratch (event_of_drop slip (Err e)) (ap calls.drop is ∙ is_call _ ex) (e, refl, ea) d s refl (λ _. refl)
+      → Did b (event_of_drop slip r) c → Frame b c → vec_items c.saved ≡ vec_items b.saved → Made m b c p p scratch scratch x a
+  made_drop k slip (Ok u) ex is ea d f s = made p scratch (event_of_drop slip (Ok u)) (ap calls.drop is ∙ is_call _ ex) ea (d m) (stays_saved b c f s) refl (λ _. refl)
+  made_drop k slip (Err e) ex is ea d f s = made p scratch (event_of_drop slip (Err e)) (ap calls.drop is ∙ is_call _ ex) (e, refl, ea) (d m) (stays_saved b c f s) refl (λ _. refl)
 
   pub made_ask : (i : ℕ) (r : Result Cell Refusal) → x ≡ call.Ask i → a ≡ of_ask i r
       → Does m (state b) (event_of_ask i r) (state c) → Stays b c → Made m b c p p scratch scratch x a
@@ -105,27 +103,27 @@ module _ (m : Meaning) (laws : FiveLaws m) (b : Board) (p q : List ℕ) (s t : L
   abbrev n : ℕ
   n = length (state b).rows
 
-  abbrev SoughtAs : Result Sought Refusal → Type 0
+  abbrev SoughtAs : Result Bool Refusal → Type 0
   SoughtAs r = Does m (state b) (event_of_seek n q t r) (state b) × Memory n p q s t r
 
   abbrev Makes : Answer → Type 0
   Makes a = Made m b b p q s t call.Seek a
 
-  module _ (r : Result Sought Refusal) (does : Does m (state b) (event_of_seek n q t r) (state b)) (memory : Memory n p q s t r) where
-    at : (r' : Result Sought Refusal) → r ≡ r' → SoughtAs r'
+  module _ (r : Result Bool Refusal) (does : Does m (state b) (event_of_seek n q t r) (state b)) (memory : Memory n p q s t r) where
+    at : (r' : Result Bool Refusal) → r ≡ r' → SoughtAs r'
     at r' e = subst SoughtAs e (does, memory)
 
-    pub made_found : (v : Vec ℕ Global) → vec_items v ≡ take n q → r ≡ Ok sought.Plan → Makes (answer.Plan v)
+    pub made_found : (v : Vec ℕ Global) → vec_items v ≡ take n q → r ≡ Ok true → Makes (answer.Plan v)
     made_found v is e =
-        let (d, past) = at (Ok sought.Plan) e in
+        let (d, past) = at (Ok true) e in
         let room = leb-true n (length q) (passed (leb n (length q)) _ 15 d.0 (omega arith)).0 in
         made m laws b b p s call.Seek (answer.Plan v) q t (found (length q) (length t) (take n q))
         (ap₂ calls.seek lp ls) (v, is, refl) d (stays_same b)
         (sym (take-append-drop n q) ∙ ap (λ (z : List ℕ). take n q ++ z) (past ∙ ap (λ (i : ℕ). drop i p) (sym (length-take-le n q room)))) (λ x. absurd (true≢false x))
 
-    pub made_none : r ≡ Ok sought.None → Makes answer.NoPlan
+    pub made_none : r ≡ Ok false → Makes answer.NoPlan
     made_none e =
-        let (d, same) = at (Ok sought.None) e in
+        let (d, same) = at (Ok false) e in
         made m laws b b p s call.Seek answer.NoPlan q t (none_found (length q) (length t)) (ap₂ calls.seek lp ls) refl d (stays_same b) same (λ x. absurd (true≢false x))
 
     pub made_refused : (why : Refusal) → r ≡ Err why → Makes (answer.Refused why)

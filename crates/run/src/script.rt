@@ -12,6 +12,8 @@ use rule_families::family::Family;
 use std::alloc::Global;
 
 // Makes the calls of the script in turn on the board, up to one for whose answer there is no memory.
+// Kept: plan memory and scratch are two slices, as seek takes them; heap, board and family have other owners each.
+#[tactic(auto, using(crate::proofs::Determined::determined, crate::proofs::Scripted::ran_none))]
 pub fn run<F: Family>(
     heap: Global,
     board: &mut Board,

@@ -1,6 +1,6 @@
 // One call of a script.
 ghost use Rattle.std.specs.Prelude.{◌≡◌};
-ghost use Rattle.run.specs.Results.{of_grant, of_open, of_ask, of_settle};
+ghost use Rattle.run.specs.Results.{of_ask};
 ghost use Rattle.run.specs.Scripts.{Steps};
 
 use crate::answer::Answer;
@@ -11,11 +11,10 @@ use bounds::cell::Cell;
 use bounds::row::Row;
 use rule_families::family::Family;
 use search::seek::seek;
-use search::sought::Sought;
-use settling::settled::Settled;
 use std::alloc::{AllocError, Global};
 
 // Makes one call of a script on the board. Without memory for its answer it is not made.
+// Kept: plan memory and scratch are two slices, as seek takes them.
 pub fn step<F: Family>(
     heap: Global,
     board: &mut Board,
@@ -26,13 +25,14 @@ pub fn step<F: Family>(
 ) -> Result<Answer, AllocError>
     ensures { Steps (F.meaning family.now) board.old board.new plan.old plan.new scratch.old scratch.new call result }
 {
+    // Kept: calls are data, read from a script; each is answered by a method of its own.
     match call {
-        Call::Tighten { cell, low, high } => Ok(granted(board.tighten(cell, low, high))),
-        Call::Open => Ok(opened(board.open())),
-        Call::Keep(serial) => Ok(granted(board.keep(Slip::of(serial)))),
-        Call::Drop(serial) => Ok(granted(board.drop(Slip::of(serial)))),
+        Call::Tighten { cell, low, high } => Ok(board.tighten(cell, low, high).into()),
+        Call::Open => Ok(board.open().into()),
+        Call::Keep(serial) => Ok(board.keep(Slip::of(serial)).into()),
+        Call::Drop(serial) => Ok(board.drop(Slip::of(serial)).into()),
         Call::Ask(cell) => Ok(asked(cell, board.ask(cell))),
-        Call::Settle => Ok(settled(board.settle(family))),
+        Call::Settle => Ok(board.settle(family).into()),
         Call::Seek => sought(heap, board, family, plan, scratch),
     }
 }
@@ -49,37 +49,17 @@ fn sought<F: Family>(
     let cells = board.cells();
     // The room for a plan comes first, so that a seek that is made is answered.
     let mut counts = Vec::with_capacity(heap, cells)?;
-    let found = match seek(board, family, plan, scratch) {
-        Ok(found) => found,
-        Err(why) => return Ok(Answer::Refused(why)),
-    };
-    match found {
-        Sought::Plan => {
+    match seek(board, family, plan, scratch) {
+        Ok(true) => {
             counts.extend_from_slice(&plan[..cells])?;
             Ok(Answer::Plan(counts))
         }
-        Sought::None => Ok(Answer::NoPlan),
+        Ok(false) => Ok(Answer::NoPlan),
+        Err(why) => Ok(Answer::Refused(why)),
     }
 }
 
-fn granted(res: Result<(), Refusal>) -> Answer
-    ensures { result ≡ of_grant res }
-{
-    match res {
-        Ok(()) => Answer::Granted,
-        Err(why) => Answer::Refused(why),
-    }
-}
-
-fn opened(res: Result<Slip, Refusal>) -> Answer
-    ensures { result ≡ of_open res }
-{
-    match res {
-        Ok(slip) => Answer::Slip(slip.into_serial()),
-        Err(why) => Answer::Refused(why),
-    }
-}
-
+// Kept: as a From it would take a pair of the cell and the result, which is no plainer.
 fn asked(cell: usize, res: Result<Cell, Refusal>) -> Answer
     ensures { result ≡ of_ask cell res }
 {
@@ -90,14 +70,5 @@ fn asked(cell: usize, res: Result<Cell, Refusal>) -> Answer
             high: counts.high(),
         },
         Err(why) => Answer::Refused(why),
-    }
-}
-
-fn settled(res: Settled) -> Answer
-    ensures { result ≡ of_settle res }
-{
-    match res {
-        Settled::Settled(applied) => Answer::Settled(applied),
-        Settled::Void(applied) => Answer::Void(applied),
     }
 }

@@ -1,8 +1,13 @@
 -- The steps of a search: a leaf, a try of the lowest count of a cell, and the next count.
-use Rattle.std.proofs.Common.{◌≡◌, ℕ, zero, suc, ◌+◌, ◌*◌, ◌<◌, ◌≤◌, true, false, ◌≢◌, List, [], ◌∷◌, length, get_or, take, drop, set, Some, None, sym, refl, ap, ◌∙◌, subst, inl, inr, mul-le-mul_right, add-mul, arith, length-set}
-use Rattle.std.proofs.lemmas.Bool.{cases_eq}
+use Rattle.std.proofs.Common.{◌≡◌, ℕ, zero, suc, ◌+◌, ◌-◌, ◌*◌, ◌<◌, ◌≤◌, Bool, true, false, cond, not, eqb, ltb, ◌≢◌, List, [], ◌∷◌, length, get_or, take, drop, set, position, Some, None, sym, refl, ap, ◌∙◌, subst, inl, inr, mul-le-mul_right, add-mul, arith, length-set}
+use Rattle.std.proofs.lemmas.Bool.{cases_eq, eqb-true, eq-eqb, not-false, ltb-false, true≢false}
+use Rattle.std.proofs.lemmas.Bool.Decides.{nat_tests}
+use Rattle.std.proofs.lemmas.Option.{none-some}
+use Rattle.std.proofs.lemmas.List.Sums.{sum_by-cons, sum_by-set, fails_before_first}
+use Rattle.std.proofs.lemmas.List.Quantifiers.{position-Some}
+use Rattle.std.specs.List.{position_or_len}
 use Rattle.bounds.specs.declared.row.Row.{Row}
-use Rattle.bounds.specs.Boards.{Board, sound, Inside, Fills, Fixed, Lies, spread, lows}
+use Rattle.bounds.specs.Boards.{Board, sound, Inside, Fills, Fixed, Lies, spread, lows, none_row}
 use Rattle.bounds.specs.Laws.{Meaning, FiveLaws}
 use Rattle.bounds.proofs.Places.{low_at, high_at, same_row, sound_at, fills_at, fills_inside}
 use Rattle.bounds.proofs.Rows.{fills_lows, inside_all, cut, fills_cut, cut_fills, sound_set, spread_inside}
@@ -10,11 +15,15 @@ use Rattle.settling.specs.declared.settled.Settled.TheVariants.{Settled, Void}
 use Rattle.settling.specs.Plans.{First, Before, NoPlan}
 use Rattle.settling.specs.Settles.{Settles}
 use Rattle.settling.proofs.Applied.{Keeps, applied_keeps}
-use Rattle.search.specs.Seeks.{opens, FixedBelow, FirstOpen, Searched}
+use Rattle.search.specs.Seeks.{is_open, opens, Searched}
 use Rattle.search.proofs.Leaves.{fixed_plan}
 
 abbrev pub NoneIn : Meaning → List Row → Type 0
 NoneIn m a = NoPlan m (λ p. Fills p a)
+
+-- the cells below c are fixed
+abbrev pub FixedBelow : List Row → ℕ → Type 0
+FixedBelow a c = (k : ℕ) → k < c → low_at a k ≡ high_at a k
 
 -- c is the first open cell of the rows a, which come from b
 pub record Node (m : Meaning) (b a : List Row) (c : ℕ) : Type 0 where
@@ -48,15 +57,30 @@ later (y ∷ q) (x ∷ p) (r ∷ a) (suc c) l f g h k b =
       | inr e ↦ later q p a c (omega arith) f.2 g.2 (λ i j. h (suc i) (omega arith)) k e.1
     ]
 
+is_fixed : (r : Row) → is_open r ≡ false → r.low ≡ r.high
+is_fixed r h = eqb-true r.low r.high (not-false (eqb r.low r.high) h)
+
+is_apart : (r : Row) → is_open r ≡ true → r.low ≢ r.high
+is_apart r h e = true≢false (sym h ∙ ap not (eq-eqb r.low r.high e))
+
+not_some : (b : Bool) (n : ℕ) → cond b (Some n) None ≡ None → b ≡ false
+not_some true n e = absurd (none-some n (sym e))
+not_some false n e = refl
+
+none_open : (a : List Row) → position is_open a ≡ None → FixedBelow a (length a)
+none_open a e k l =
+    let n = position_or_len is_open a in
+    let past = ltb-false n (length a) (not_some (ltb n (length a)) n e) in
+    is_fixed (get_or a k none_row) (fails_before_first is_open a k none_row (omega arith))
+
+opens_cons : (r : Row) (a : List Row) → opens (r ∷ a) ≡ cond (ltb r.low r.high) 1 0 + opens a
+opens_cons r a = sum_by-cons (λ (x : Row). cond (ltb x.low x.high) 1 0) r a
+
 opens_inside : (a b : List Row) → Inside a b → opens a ≤ opens b
 opens_inside [] [] h = omega arith
 opens_inside [] (y ∷ b) h = absurd h
 opens_inside (x ∷ a) [] h = absurd h
-opens_inside (x ∷ a) (y ∷ b) h = omega (arith, opens_inside a b h.2)
-
-pub opens_length : (a : List Row) → opens a ≤ length a
-opens_length [] = omega arith
-opens_length (x ∷ a) = omega (arith, opens_length a)
+opens_inside (x ∷ a) (y ∷ b) h = rw (opens_cons x a, opens_cons y b) (grind (arith, nat_tests, opens_inside a b h.2))
 
 level_room : (k n o r : ℕ) → o + 1 ≤ k → k * n ≤ r → o * n + n ≤ r
 level_room k n o r l h = omega (arith, mul-le-mul_right n l, add-mul o 1 n)
@@ -68,20 +92,19 @@ fixed_at a c = set a c (record { low = low_at a c; high = low_at a c })
 abbrev pub raised_at : List Row → ℕ → List Row
 raised_at a c = set a c (record { low = low_at a c + 1; high = high_at a c })
 
+width_at : (a : List Row) (c : ℕ) (r : Row) → c < length a → spread (set a c r) + (high_at a c - low_at a c) ≡ spread a + (r.high - r.low)
+width_at a c r l = omega (arith, sum_by-set (λ (x : Row). x.high - x.low) a c r none_row l)
+
 fixed_opens : (a : List Row) (c : ℕ) → c < length a → low_at a c < high_at a c → opens (fixed_at a c) + 1 ≡ opens a
-fixed_opens [] c l o = omega arith
-fixed_opens (x ∷ a) zero l o = omega arith
-fixed_opens (x ∷ a) (suc c) l o = omega (arith, fixed_opens a c (omega arith) o)
+fixed_opens a c l o =
+    let e = sum_by-set (λ (x : Row). cond (ltb x.low x.high) 1 0) a c (record { low = low_at a c; high = low_at a c }) none_row l in
+    grind (arith, nat_tests)
 
 fixed_spread : (a : List Row) (c : ℕ) → c < length a → low_at a c < high_at a c → spread (fixed_at a c) < spread a
-fixed_spread [] c l o = omega arith
-fixed_spread (x ∷ a) zero l o = omega arith
-fixed_spread (x ∷ a) (suc c) l o = omega (arith, fixed_spread a c (omega arith) o)
+fixed_spread a c l o = omega (arith, width_at a c (record { low = low_at a c; high = low_at a c }) l)
 
 raised_spread : (a : List Row) (c : ℕ) → c < length a → low_at a c < high_at a c → spread (raised_at a c) < spread a
-raised_spread [] c l o = omega arith
-raised_spread (x ∷ a) zero l o = omega arith
-raised_spread (x ∷ a) (suc c) l o = omega (arith, raised_spread a c (omega arith) o)
+raised_spread a c l o = omega (arith, width_at a c (record { low = low_at a c + 1; high = high_at a c }) l)
 
 module _ (m : Meaning) where
   pub keeps_same : (a : List Row) → sound a ≡ true → Keeps m a a
@@ -108,29 +131,31 @@ module _ (m : Meaning) (laws : FiveLaws m) (b l a : List Row) (n : ℕ) (k : Kee
       let g = (applied_keeps m laws k.still_sound app).plans p pl (k.plans p pl f) in
       subst (λ (x : Board). Lies p x) voids ((laws.each r).keeps a p s g (pl r lowest.listed))
 
-  pub leaf_found : Settles m l a (Settled n) → FirstOpen a None → (p q : List ℕ) → take (length a) q ≡ lows a → drop (length a) q ≡ drop (length a) p
+  pub leaf_found : Settles m l a (Settled n) → None ≡ position is_open a → (p q : List ℕ) → take (length a) q ≡ lows a → drop (length a) q ≡ drop (length a) p
       → Searched m b p q true
-  leaf_found (app, quiet, s, len) fixed p q front back =
+  leaf_found (app, quiet, s, len) none p q front back =
       let first : FirstIn m a (lows a) = record {
-        is_plan = fixed_plan m laws a s quiet (lows a) (fixed_lows a fixed);
+        is_plan = fixed_plan m laws a s quiet (lows a) (fixed_lows a (none_open a (sym none)));
         is_allowed = fills_lows a s;
         no_earlier = λ x pl f. lows_first x a f;
       } in
       subst (λ (j : ℕ). FirstIn m b (take j q) × (drop j q ≡ drop j p)) (len ∙ e)
       (subst (FirstIn m b) (sym front) (first_kept m b a _ (keeps_on m b l a k (applied_keeps m laws k.still_sound app)) first), back)
 
-  pub node : Settles m l a (Settled n) → (c : ℕ) → FirstOpen a (Some c) → Node m b a c
-  node (app, quiet, s, len) c (here, apart, below) = record {
-    kept = keeps_on m b l a k (applied_keeps m laws k.still_sound app);
-    len = len ∙ e;
-    here = here;
-    apart = apart;
-    below = below;
-  }
+  pub node : Settles m l a (Settled n) → (c : ℕ) → Some c ≡ position is_open a → Node m b a c
+  node (app, quiet, s, len) c first =
+      let at = position-Some is_open a c none_row (sym first) in
+      record {
+        kept = keeps_on m b l a k (applied_keeps m laws k.still_sound app);
+        len = len ∙ e;
+        here = at.0;
+        apart = is_apart (get_or a c none_row) at.1;
+        below = λ i lt. is_fixed (get_or a i none_row) (at.2 i lt);
+      }
 
 module _ (m : Meaning) (b a : List Row) (c : ℕ) (d : Node m b a c) where
-  pub is_open : low_at a c < high_at a c
-  is_open = let k = sound_at a d.kept.still_sound c d.here in let n = d.apart in omega arith
+  pub lower : low_at a c < high_at a c
+  lower = let k = sound_at a d.kept.still_sound c d.here in let n = d.apart in omega arith
 
   pub fixed_sound : sound (fixed_at a c) ≡ true
   fixed_sound = sound_set a c _ d.kept.still_sound (omega arith)
@@ -139,21 +164,21 @@ module _ (m : Meaning) (b a : List Row) (c : ℕ) (d : Node m b a c) where
   fixed_length = length-set a c _ ∙ d.len
 
   pub fixed_narrower : spread (fixed_at a c) < spread b
-  fixed_narrower = omega (arith, fixed_spread a c d.here is_open, spread_inside a b d.kept.inside)
+  fixed_narrower = omega (arith, fixed_spread a c d.here lower, spread_inside a b d.kept.inside)
 
   pub raised_narrower : spread (raised_at a c) < spread a
-  raised_narrower = raised_spread a c d.here is_open
+  raised_narrower = raised_spread a c d.here lower
 
   -- the rest has room for the try and for what it needs in turn
   pub tried_room : (r : ℕ) → opens b * length b ≤ r → opens (fixed_at a c) * length b + length b ≤ r
   tried_room r h =
-      level_room (opens b) (length b) (opens (fixed_at a c)) r (omega (arith, fixed_opens a c d.here is_open, opens_inside a b d.kept.inside)) h
+      level_room (opens b) (length b) (opens (fixed_at a c)) r (omega (arith, fixed_opens a c d.here lower, opens_inside a b d.kept.inside)) h
 
   fixed_is : fixed_at a c ≡ cut a c 0 (low_at a c)
-  fixed_is = let o = is_open in ap (λ (r : Row). set a c r) (same_row _ _ (omega arith) (omega arith))
+  fixed_is = let o = lower in ap (λ (r : Row). set a c r) (same_row _ _ (omega arith) (omega arith))
 
   raised_is : raised_at a c ≡ cut a c (low_at a c + 1) (high_at a c)
-  raised_is = let o = is_open in ap (λ (r : Row). set a c r) (same_row _ _ (omega arith) (omega arith))
+  raised_is = let o = lower in ap (λ (r : Row). set a c r) (same_row _ _ (omega arith) (omega arith))
 
   fixed_fills : (p : List ℕ) → Fills p a → get_or p c 0 ≡ low_at a c → Fills p (fixed_at a c)
   fixed_fills p f e = subst (Fills p) (sym fixed_is) (fills_cut p a c 0 (low_at a c) f (omega arith) (omega arith))
@@ -166,7 +191,7 @@ module _ (m : Meaning) (b a : List Row) (c : ℕ) (d : Node m b a c) where
   -- a try with no plan takes the lowest count away
   raised_keeps : NoneIn m (fixed_at a c) → Keeps m a (raised_at a c)
   raised_keeps none =
-      let o = is_open in
+      let o = lower in
       let r : sound (raised_at a c) ≡ true = sound_set a c _ d.kept.still_sound (omega arith) in
       record {
         still_sound = r;

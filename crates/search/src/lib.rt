@@ -1,4 +1,3 @@
 #![tactic(auto)]
 
 pub mod seek;
-pub mod sought;

@@ -1,11 +1,10 @@
 // The first plan in a board, by a search that settles at every step.
-ghost use Rattle.std.specs.Prelude.{◌≡◌, ◌+◌, ◌*◌, ◌<◌, ◌≤◌, true, length, take, drop};
+ghost use Rattle.std.specs.Prelude.{◌≡◌, ◌+◌, ◌*◌, ◌<◌, ◌≤◌, true, length, take, drop, position};
 ghost use Rattle.bounds.specs.Boards.{sound, lows};
 ghost use Rattle.board.specs.Calls.{Does};
 ghost use Rattle.board.specs.Held.{state};
-ghost use Rattle.search.specs.Seeks.{event_of_seek, Memory, opens, FirstOpen, Searched};
+ghost use Rattle.search.specs.Seeks.{event_of_seek, Memory, is_open, opens, Searched};
 
-use crate::sought::Sought;
 use board::board::Board;
 use board::refusal::Refusal;
 use bounds::row::Row;
@@ -13,14 +12,16 @@ use rule_families::family::Family;
 use settling::settle::settle_rows;
 use settling::settled::Settled;
 
-// Writes the first plan in the board at the front of the plan memory, if there is one.
+// Whether the board holds a plan: the first is then written at the front of the plan memory.
 // Scratch holds the board's rows and a level for each of its cells.
+// Kept: of plan memory that comes back as an Option<&[u16]> the checker makes no proof, so no caller knows what is left of it.
+// Kept: with both memories in one lent struct every contract would also say that they are the same slices, as long as before.
 pub fn seek<F: Family>(
     board: &Board,
     family: &F,
     plan: &mut [u16],
     scratch: &mut [Row],
-) -> Result<Sought, Refusal>
+) -> Result<bool, Refusal>
     ensures does { Does (F.meaning family.now) (state board.now) (event_of_seek (length (state board.now).rows) plan.new scratch.new result) (state board.now) }
     ensures memory { Memory (length (state board.now).rows) plan.old plan.new scratch.old scratch.new result }
 {
@@ -30,18 +31,15 @@ pub fn seek<F: Family>(
         return Err(Refusal::Room);
     }
     if board.is_void() {
-        return Ok(Sought::None);
+        return Ok(false);
     }
     let (level, rest) = scratch.split_at_mut(cells);
     level.copy_from_slice(rows);
-    if search(family, level, plan, rest) {
-        Ok(Sought::Plan)
-    } else {
-        Ok(Sought::None)
-    }
+    Ok(search(family, level, plan, rest))
 }
 
 // Each try has a level of its own, at the front of the rest.
+// Kept: a plan that a try returned as a borrow could not be lent to the next try of the loop.
 fn search<F: Family>(family: &F, level: &mut [Row], plan: &mut [u16], rest: &mut [Row]) -> bool
     requires sound { sound level.old ≡ true }
     requires few { length level.old ≤ 1024 }
@@ -61,27 +59,18 @@ fn search<F: Family>(family: &F, level: &mut [Row], plan: &mut [u16], rest: &mut
         let (tried, deeper) = rest.split_at_mut(cells);
         tried.copy_from_slice(level);
         let row = level[cell];
-        let lowest = row.low;
-        tried[cell] = Row {
-            low: lowest,
-            high: lowest,
-        };
+        tried[cell].high = row.low;
         if search(family, tried, plan, deeper) {
             return true;
         }
-        level[cell] = raised(row);
+        level[cell].low = row.low + 1;
     }
 }
 
 fn first_open(rows: &[Row]) -> Option<usize>
-    ensures { FirstOpen rows.now result }
+    ensures { result ≡ position is_open rows.now }
 {
-    for (cell, row) in rows.iter().enumerate() {
-        if row.low != row.high {
-            return Some(cell);
-        }
-    }
-    None
+    rows.iter().position(|row| row.low != row.high)
 }
 
 fn write_lows(rows: &[Row], plan: &mut [u16])
@@ -89,18 +78,8 @@ fn write_lows(rows: &[Row], plan: &mut [u16])
     ensures front { take (length rows.now) plan.new ≡ lows rows.now }
     ensures back { drop (length rows.now) plan.new ≡ drop (length rows.now) plan.old }
 {
+    // Kept: after a loop over the counts zipped with the rows a proof knows nothing of the counts.
     for (cell, row) in rows.iter().enumerate() {
         plan[cell] = row.low;
-    }
-}
-
-// The row without its lowest count.
-fn raised(row: Row) -> Row
-    requires { row.low < row.high }
-    ensures { result ≡ record { low = row.low + 1; high = row.high } }
-{
-    Row {
-        low: row.low + 1,
-        high: row.high,
     }
 }

@@ -1,9 +1,9 @@
-use Rattle.std.proofs.Common.{◌≡◌, ℕ, List, length, drop, set, sym, refl, ap, ◌∙◌, subst, arith}
+use Rattle.std.proofs.Common.{◌≡◌, ℕ, List, length, drop, set, refl, ap, ◌∙◌, arith}
 use Rattle.bounds.specs.declared.row.Row.{Row}
 use Rattle.bounds.specs.Boards.{sound, spread}
 use Rattle.bounds.proofs.Places.{low_at}
-use Rattle.settling.proofs.Applied.{Keeps, applied_narrower}
-use Rattle.search.proofs.Tries.{Node, keeps_same, none_voided, leaf_found, node, fixed_at, is_open, fixed_sound, fixed_length, fixed_narrower, raised_narrower, tried_room, try_found, try_none}
+use Rattle.settling.proofs.Applied.{applied_narrower}
+use Rattle.search.proofs.Tries.{Node, keeps_same, none_voided, leaf_found, node, fixed_at, lower, fixed_sound, fixed_length, fixed_narrower, raised_narrower, tried_room, try_found, try_none}
 use Rattle.search.proofs.seek.+search.Given as given
 use Rattle.search.proofs.seek.+search.Goals as goal
 use Rattle.search.proofs.seek.+search.Goals.{In-Some, After-copy_from_slice}
@@ -16,11 +16,12 @@ at-cell g t c =
 
 -- the level of the try
 tried-is : (g : given.Over) (t : ℕ) (c : goal.After-copy_from_slice g t) → let a = c.settle_rows.new.rows in let i = c.in-Some.cell in
-    set c.copy_from_slice.new.self i (record { low = low_at a i; high = low_at a i }) ≡ fixed_at a i
+    let x = c.copy_from_slice.new.self in
+    set x i (record { low = low_at x i; high = low_at a i }) ≡ fixed_at a i
 tried-is g t c =
     let a = c.settle_rows.new.rows in
     let i = c.in-Some.cell in
-    ap (λ (x : List Row). set x i (record { low = low_at a i; high = low_at a i })) c.copy_from_slice.ensures.after
+    ap (λ (x : List Row). set x i (record { low = low_at x i; high = low_at a i })) c.copy_from_slice.ensures.after
 
 pub loop-level-init : goal.loop-level-init
 loop-level-init g t c = (keeps_same _ _ c.requires.sound, refl)
@@ -68,22 +69,19 @@ returns-then-search g t c =
     try_found _ _ _ _ (at-cell g t (goal.at.returns-then-search g t c).In-Some) _ (tried-is g t (goal.at.returns-then-search g t c).After-copy_from_slice)
     _ _ _ c.loop-level.invariant.1 c.if-search.ensures
 
-pub raised-requires : goal.raised-requires
-raised-requires g t c = is_open _ _ _ _ (at-cell g t (goal.at.raised-requires g t c).In-Some)
+pub overflow_add-level : goal.overflow_add-level
+overflow_add-level g t c = let o = lower _ _ _ _ (at-cell g t (goal.at.overflow_add-level g t c).In-Some) in omega arith
 
 pub loop-level-smaller : goal.loop-level-smaller
 loop-level-smaller g t c =
     omega (
       arith,
-      ap (λ (r : Row). spread (set c.settle_rows.new.rows c.in-Some.cell r)) c.raised.ensures,
       raised_narrower _ _ _ _ (at-cell g t (goal.at.loop-level-smaller g t c).In-Some),
       applied_narrower _ (g.F.Family.lawful c.args.family.now) c.loop-level.invariant.0.still_sound c.in_default.ensures.0,
     )
 
 pub loop-level-preserved : goal.loop-level-preserved
 loop-level-preserved g t c =
-    let m = g.F.Family.meaning c.args.family.now in
-    subst (λ (r : Row). Keeps m c.args.level.now (set c.settle_rows.new.rows c.in-Some.cell r) × (c.search.new.plan ≡ c.args.plan.now))
-    (sym c.raised.ensures)
-    (try_none m _ _ _ (at-cell g t (goal.at.loop-level-preserved g t c).In-Some) _ (tried-is g t (goal.at.loop-level-preserved g t c).After-copy_from_slice)
-    _ _ _ c.loop-level.invariant.1 c.if-search.ensures)
+    try_none (g.F.Family.meaning c.args.family.now) _ _ _
+    (at-cell g t (goal.at.loop-level-preserved g t c).In-Some) _ (tried-is g t (goal.at.loop-level-preserved g t c).After-copy_from_slice)
+    _ _ _ c.loop-level.invariant.1 c.if-search.ensures

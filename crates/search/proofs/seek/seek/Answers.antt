@@ -1,8 +1,8 @@
-use Rattle.std.proofs.Common.{◌≡◌, ◌*◌, ◌≤◌, List, length, sym, ap, ◌∙◌, subst, mul-le-mul_right, add-mul, arith}
+use Rattle.std.proofs.Common.{◌≡◌, ltb, ◌*◌, ◌≤◌, List, length, sym, ap, ◌∙◌, subst, mul-le-mul_right, add-mul, arith}
 use Rattle.bounds.specs.declared.row.Row.{Row}
 use Rattle.bounds.specs.Boards.{sound}
 use Rattle.search.specs.Seeks.{opens}
-use Rattle.search.proofs.Tries.{opens_length}
+use Rattle.std.proofs.lemmas.List.Sums.{count_by-le-length}
 use Rattle.search.proofs.seek.seek.Goals as goal
 
 pub search-requires : goal.search-requires
@@ -15,5 +15,5 @@ search-requires g c =
       few = omega arith;
       counts = omega arith;
       room = subst (λ (x : List Row). opens x * length x ≤ length c.split_at_mut-level.result.1.now) (sym is)
-          (omega (arith, mul-le-mul_right (length a) (opens_length a), add-mul (length a) 1 (length a)));
+          (omega (arith, mul-le-mul_right (length a) (count_by-le-length (λ (r : Row). ltb r.low r.high) a), add-mul (length a) 1 (length a)));
     }
