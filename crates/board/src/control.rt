@@ -2,7 +2,7 @@
 ghost use Rattle.std.specs.Prelude.{◌≡◌, false, replicate};
 ghost use Rattle.board.specs.Records.{none_trial};
 
-pub const MOST_TRIALS: usize = 16;
+use crate::unfit::MOST_TRIALS;
 
 #[derive(Clone, Copy, PartialEq, Eq, Debug, Default)]
 pub struct Trial {

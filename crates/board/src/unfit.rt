@@ -1,10 +1,12 @@
 // Memory that makes no board, given back.
 ghost use Rattle.board.specs.Makes.{roomless, Tells};
 
-use crate::control::MOST_TRIALS;
 use bounds::row::Row;
 
 pub const MOST_CELLS: usize = 1024;
+
+// The most trials that are open at a time.
+pub const MOST_TRIALS: usize = 16;
 
 #[derive(Clone, Copy, PartialEq, Eq, Debug)]
 pub enum Unfit {

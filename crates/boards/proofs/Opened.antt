@@ -1,47 +1,89 @@
 -- The board that is made of the memory into which a job's rows were written.
-use Rattle.std.proofs.Common.{◌≡◌, ℕ, suc, ◌+◌, ◌<◌, ◌≤◌, Bool, ◌&&◌, leb, List, [], ◌∷◌, get_or, Option, MatchOption, refl, ap₂, length, take, drop, Some, None, Ok, Err, vec_items, vec_len, Result, Vec, sym, ap, ◌∙◌, arith}
+use Rattle.std.proofs.Common.{◌≡◌, ℕ, suc, ◌+◌, ◌<◌, ◌≤◌, Bool, true, false, cond, ◌&&◌, leb, ◌⊎◌, inl, inr, ◌*◌, List, [], ◌∷◌, get_or, Option, MatchOption, refl, ap₂, length, take, drop, Some, None, Ok, Err, vec_items, vec_len, Result, Vec, sym, ap, ◌∙◌, arith}
 use Rattle.std.specs.Vec.{with_items}
 use Rattle.std.specs.declared.alloc.Global.{Global}
-use Rattle.std.proofs.lemmas.List.{with_items_is, length-map, get_or-map, get_or_past}
-use Rattle.std.specs.Option.{unwrap_or}
-use Rattle.std.specs.List.{list_all, range_with_len}
-use Rattle.bounds.specs.Boards.{sound, none_row}
+use Rattle.std.proofs.lemmas.List.{with_items_is, length-map, take_more, take_more_set, length-take-le}
+use Rattle.job.proofs.Gathered.{length_spaced}
+use Rattle.std.proofs.lemmas.Grind.{common_steps}
+use Rattle.bounds.specs.Boards.{sound}
 use Rattle.bounds.specs.declared.row.Row.{Row}
 use Rattle.board.specs.declared.board.Board.{Board}
 use Rattle.board.specs.declared.unfit.Refused.{Refused}
 use Rattle.board.specs.Calls.{as_read}
 use Rattle.board.specs.declared.unfit.Unfit.{Unfit}
-use Rattle.board.specs.Makes.{unfit, Tells, Makes}
+use Rattle.board.specs.declared.unfit.Unfit.TheVariants.{Size, Room, Unsound}
+use Rattle.std.proofs.lemmas.Bool.{and_from, and_parts, and_cases, le-leb, leb-true, leb-false}
+use Rattle.board.specs.Makes.{unfit, roomless, Makes}
 use Rattle.job.specs.declared.job.Job.{Job}
 use Rattle.job.specs.Jobs.{job_file, job_found}
 use Rattle.job.specs.Tallies.{row_at}
-use Rattle.boards.specs.Opening.{job_rows, Opens}
+use Rattle.boards.specs.Opening.{job_rows, Opens, HasRoom}
 
 pub rows_counted : (j : Job) → length (job_rows j) ≡ length (job_found j).cells
 unfolding job_rows
 rows_counted j = length-map (job_found j).cells (row_at (job_file j))
 
-pub row_is : (j : Job) (n : ℕ) (o : Option Row)
-    → MatchOption o (length (job_found j).cells ≤ n) (λ row. (n < length (job_found j).cells) × (row ≡ row_at (job_file j) (get_or (job_found j).cells n 0)))
-    → unwrap_or o none_row ≡ get_or (job_rows j) n none_row
+-- what writing the rows is proved by
+pub ruleset filling = (common_steps, rows_counted, take_more, take_more_set, length-take-le)
+
+pub sound_rows : (j : Job) → sound (job_rows j) ≡ true
 unfolding job_rows
-row_is j n (Some r) (h, e) = e ∙ sym (get_or-map (row_at (job_file j)) (job_found j).cells n 0 none_row h)
-row_is j n None h = sym (get_or_past (job_rows j) n none_row (omega (arith, rows_counted j)))
+sound_rows j = j.sound_cells
 
--- the rows, asked one by one
-pub sound_by_index : (rs : List Row) (test : ℕ → Bool) (a : ℕ)
-    → ((i : ℕ) → i < length rs → test (a + i) ≡ leb (get_or rs i none_row).low (get_or rs i none_row).high) → list_all test (range_with_len a (length rs)) ≡ sound rs
-sound_by_index [] test a e = refl
-sound_by_index (r ∷ rs) test a e =
-    let s : a ≡ a + 0 = omega arith in
-    ap₂ ◌&&◌ (ap test s ∙ e 0 (omega arith)) (sound_by_index rs test (a + 1) (λ i l. let t : (a + 1) + i ≡ a + suc i = omega arith in ap test t ∙ e (suc i) (omega arith)))
+some_few : (j : Job) → (leb 1 (length (job_rows j)) && leb (length (job_rows j)) 1024) ≡ true
+some_few j =
+    let n = length (job_rows j) in
+    let l : n ≡ j.tally.cells = rows_counted j ∙ length_spaced j.tally.cells j.tally.start in
+    and_from (leb 1 n) (leb n 1024) (le-leb 1 n (omega (arith, l, j.some_cells))) (le-leb n 1024 (omega (arith, l, j.few_cells)))
 
-pub told_fit : (o : Option Unfit) (r : Result (Unit {0}) Unfit) (u : Unit {0}) → Tells o r → r ≡ Ok u → o ≡ None
-told_fit o (Ok x) u told e = told
-told_fit o (Err why) u told e = let z : ◌≡◌ {A = ℕ} 0 1 = cc in absurd (omega arith)
+none_some : {A : Type 0} (why : Unfit) → ◌≡◌ {A = Option Unfit} None (Some why) → A
+none_some why e = let z : ◌≡◌ {A = ℕ} 0 1 = cc in absurd (omega arith)
 
-module _ (job : List Row) (rows saved : Vec Row Global) (xs ws : List Row) (n : ℕ) (from : xs ≡ vec_items rows) (long : length ws ≡ vec_len rows)
-    (all : n ≡ length job) (front : take (length job) ws ≡ job) (past : drop (length job) ws ≡ drop (length job) xs)
+true_false : {A : Type 0} → true ≡ false → A
+true_false e = let z : ◌≡◌ {A = ℕ} 0 1 = cc in absurd (omega arith)
+
+-- of rows that hold counts, so many that they make a board, the sizes of the memory alone decide
+sizes : (size room sound : Bool) (why : Unfit) → size ≡ true → cond size (cond room None (Some Room)) (Some Size) ≡ Some why
+    → (room ≡ false) × (cond size (cond room (cond sound None (Some Unsound)) (Some Room)) (Some Size) ≡ Some why)
+sizes true true sound why s e = none_some why e
+sizes true false sound why s e = (refl, e)
+sizes false room sound why s e = true_false (sym s)
+
+enough : (size room sound : Bool) → sound ≡ true → cond size (cond room None (Some Room)) (Some Size) ≡ None
+    → (room ≡ true) × (cond size (cond room (cond sound None (Some Unsound)) (Some Room)) (Some Size) ≡ None)
+enough true true true s e = (refl, refl)
+enough true true false s e = true_false (sym s)
+enough true false sound s e = none_some _ (sym e)
+enough false room sound s e = none_some _ (sym e)
+
+pub refused : (j : Job) (room trial_room : ℕ) (why : Unfit) → roomless (length (job_rows j)) room trial_room ≡ Some why
+    → unfit (length (job_rows j)) (job_rows j) room trial_room ≡ Some why
+refused j room trial_room why is = (sizes _ _ (sound (job_rows j)) why (some_few j) is).1
+
+pub lacking : (j : Job) (room trial_room : ℕ) (why : Unfit) → roomless (length (job_rows j)) room trial_room ≡ Some why
+    → (room < length (job_rows j)) ⊎ (trial_room < 16 * length (job_rows j))
+lacking j room trial_room why is =
+    let n = length (job_rows j) in
+    let off = (sizes _ _ (sound (job_rows j)) why (some_few j) is).0 in
+    elim (and_cases (leb n room) (leb (16 * n) trial_room) off) [ inl h ↦ inl (leb-false _ _ h) | inr h ↦ inr (leb-false _ _ h) ]
+
+pub roomy : (j : Job) (room trial_room : ℕ) → roomless (length (job_rows j)) room trial_room ≡ None
+    → (unfit (length (job_rows j)) (job_rows j) room trial_room ≡ None) × (length (job_rows j) ≤ room) × (16 * length (job_rows j) ≤ trial_room)
+roomy j room trial_room none =
+    let n = length (job_rows j) in
+    let (on, fits) = enough _ _ (sound (job_rows j)) (sound_rows j) none in
+    let all = and_parts (leb n room) (leb (16 * n) trial_room) on in
+    (fits, leb-true _ _ all.0, leb-true _ _ all.1)
+
+-- of what is granted that there was room, when the sizes were found to do
+pub has_room : (j : Job) (rows saved : Vec Row Global) (r : Result Board Refused) → roomless (length (job_rows j)) (vec_len rows) (vec_len saved) ≡ None
+    → Opens (job_rows j) rows saved r → HasRoom (job_rows j) rows saved r
+has_room j rows saved (Ok b) none o = let (_, rows_room, trial_room) = roomy j _ _ none in (rows_room, trial_room)
+has_room j rows saved (Err e) none o = none_some e.why (sym (roomy j _ _ none).0 ∙ o.0)
+
+-- the board over memory into whose front the job's rows were written
+module _ (job : List Row) (rows saved : Vec Row Global) (ws : List Row) (n : ℕ) (long : length ws ≡ vec_len rows)
+    (all : n ≡ length job) (front : take (length job) ws ≡ job) (past : drop (length job) ws ≡ drop (length job) (vec_items rows))
     (fit : unfit (length job) job (vec_len rows) (vec_len saved) ≡ None) where
   held : vec_items (with_items rows ws) ≡ ws
   held = with_items_is rows ws long
@@ -57,8 +99,8 @@ module _ (job : List Row) (rows saved : Vec Row Global) (xs ws : List Row) (n : 
   opened (Ok b) (_, is, trials, now) = (
     fit,
     now ∙ ap as_read first,
-    ap (λ (v : Vec Row Global). drop (length job) (vec_items v)) is ∙ ap (drop (length job)) held ∙ past ∙ ap (drop (length job)) from,
+    ap (λ (v : Vec Row Global). drop (length job) (vec_items v)) is ∙ ap (drop (length job)) held ∙ past,
     ap (λ (v : Vec Row Global). vec_len v) is,
     trials,
   )
-  opened (Err e) (unfits, _, _) = let both : None ≡ Some e.why = sym fits ∙ unfits in let z : ◌≡◌ {A = ℕ} 0 1 = cc in absurd (omega arith)
+  opened (Err e) (unfits, _, _) = none_some e.why (sym fits ∙ unfits)

@@ -1,5 +1,5 @@
 -- The board of a job as read, and the memory that it stands in.
-use Rattle.std.specs.Prelude.{◌≡◌, List, map, length, drop, Some, None, Ok, Err, vec_items, vec_len, Result, Vec}
+use Rattle.std.specs.Prelude.{◌≡◌, ◌*◌, ◌<◌, ◌≤◌, ◌⊎◌, List, map, length, drop, Some, None, Ok, Err, vec_items, vec_len, Result, Vec}
 use Rattle.std.specs.declared.alloc.Global.{Global}
 use Rattle.bounds.specs.declared.row.Row.{Row}
 use Rattle.board.specs.declared.board.Board.{Board}
@@ -22,3 +22,8 @@ Opens job rows saved (Ok b) =
     (unfit (length job) job (vec_len rows) (vec_len saved) ≡ None) × (state b ≡ as_read job)
     × (drop (length job) (vec_items b.rows) ≡ drop (length job) (vec_items rows)) × (vec_len b.rows ≡ vec_len rows) × (b.saved ≡ saved)
 Opens job rows saved (Err e) = (unfit (length job) job (vec_len rows) (vec_len saved) ≡ Some e.why) × (e.rows ≡ rows) × (e.saved ≡ saved)
+
+-- refused only where the memory holds fewer rows than the job has cells, or fewer than 16 times that for its trials
+abbrev pub HasRoom : List Row → Vec Row Global → Vec Row Global → Result Board Refused → Type 0
+HasRoom job rows saved (Ok b) = (length job ≤ vec_len rows) × (16 * length job ≤ vec_len saved)
+HasRoom job rows saved (Err e) = (vec_len rows < length job) ⊎ (vec_len saved < 16 * length job)

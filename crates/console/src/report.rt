@@ -1,7 +1,7 @@
 // What is printed of a job that is planned: its settled bounds and its first plan.
-ghost use Rattle.std.specs.Prelude.{◌≡◌, ◌≤◌, [], length, IfOk, if◌then◌else◌};
+ghost use Rattle.std.specs.Prelude.{◌≡◌, ◌≤◌, length, IfOk};
 ghost use Rattle.board.specs.Held.{state};
-ghost use Rattle.console.specs.Reports.{Told, no_room};
+ghost use Rattle.console.specs.Reports.{Told, Left, no_room};
 
 use crate::families::rules_of;
 use crate::room::Room;
@@ -17,17 +17,16 @@ use run::script::run;
 use std::alloc::{AllocError, Global};
 use std::fmt;
 
-// The answers to a settle and a seek, and the bounds that were left.
-// Kept: a void board has no bounds to print, which is said by none in the list as well as by an Option of one.
+// The answers to a settle and a seek, and the bounds that were left; a void board has none.
 #[derive(PartialEq, Eq, Debug, Drop)]
 pub struct Report {
     pub answers: Vec<Answer>,
-    pub bounds: Vec<Row>,
+    pub bounds: Option<Vec<Row>>,
 }
 
 // Reads the job, settles its board and seeks the first plan, in the memory that is lent.
 pub fn plan_job(heap: Global, file: &[u8], room: Room) -> Result<Report, Unplanned>
-    ensures { Told file.now result }
+    ensures { Told file.now room result }
 {
     let job = Job::read(file)?;
     let Room {
@@ -63,51 +62,55 @@ fn room_refused(file: &[u8]) -> Refused
     }
 }
 
-// A row for each cell, none on a void board.
-fn bounds_left(heap: Global, board: &Board) -> Result<Vec<Row>, AllocError>
-    ensures { IfOk result (λ v. v.items ≡ (if (state board.now).is_void then [] else (state board.now).rows)) }
+// The rows of the cells, if the board is not void.
+fn bounds_left(heap: Global, board: &Board) -> Result<Option<Vec<Row>>, AllocError>
+    ensures { IfOk result (λ bounds. Left (state board.now) bounds) }
 {
     if board.is_void() {
-        return Ok(Vec::new(heap));
+        return Ok(None);
     }
-    Vec::from_slice(heap, board.rows())
+    Vec::from_slice(heap, board.rows()).map(Some)
 }
 
 impl fmt::Display for Report {
     fn fmt<W: fmt::Write>(&self, f: &mut fmt::Formatter<W>) -> fmt::Result {
         for answer in &self.answers {
-            write_planned(f, answer, &self.bounds)?;
+            self.write_answer(f, answer)?;
         }
         Ok(())
     }
 }
 
-// The lines of one answer: of a settle the narrowings and the bounds, of a seek the plan. A void board has no plan to tell.
-fn write_planned<W: fmt::Write>(
-    f: &mut fmt::Formatter<W>,
-    answer: &Answer,
-    bounds: &[Row],
-) -> fmt::Result {
-    match answer {
-        Answer::Settled(narrowings) => {
-            writeln!(f, "narrowings {narrowings}")?;
-            write_bounds(f, bounds)
+impl Report {
+    // The lines of one answer: of a settle the narrowings and the bounds, of a seek the plan. A void board has no plan to tell.
+    fn write_answer<W: fmt::Write>(
+        &self,
+        f: &mut fmt::Formatter<W>,
+        answer: &Answer,
+    ) -> fmt::Result {
+        match answer {
+            Answer::Settled(narrowings) => {
+                writeln!(f, "narrowings {narrowings}")?;
+                self.write_bounds(f)
+            }
+            Answer::Void(narrowings) => {
+                writeln!(f, "narrowings {narrowings}")?;
+                writeln!(f, "void")
+            }
+            Answer::NoPlan if self.bounds.is_none() => Ok(()),
+            _ => writeln!(f, "{answer}"),
         }
-        Answer::Void(narrowings) => {
-            writeln!(f, "narrowings {narrowings}")?;
-            writeln!(f, "void")
-        }
-        Answer::NoPlan if bounds.is_empty() => Ok(()),
-        Answer::Plan(_) | Answer::NoPlan => writeln!(f, "{answer}"),
-        _ => Ok(()),
     }
-}
 
-fn write_bounds<W: fmt::Write>(f: &mut fmt::Formatter<W>, bounds: &[Row]) -> fmt::Result {
-    for (cell, row) in bounds.iter().enumerate() {
-        let low = row.low;
-        let high = row.high;
-        writeln!(f, "{cell} {low} {high}")?;
+    fn write_bounds<W: fmt::Write>(&self, f: &mut fmt::Formatter<W>) -> fmt::Result {
+        let Some(bounds) = &self.bounds else {
+            return Ok(());
+        };
+        for (cell, row) in bounds.iter().enumerate() {
+            let low = row.low;
+            let high = row.high;
+            writeln!(f, "{cell} {low} {high}")?;
+        }
+        Ok(())
     }
-    Ok(())
 }

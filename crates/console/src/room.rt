@@ -1,6 +1,7 @@
 // The memory that a program lends for a job.
 ghost use Rattle.std.specs.Prelude.{◌≡◌, ◌+◌, ◌*◌, IfOk, vec_len};
 
+use board::unfit::MOST_TRIALS;
 use bounds::row::Row;
 use std::alloc::{AllocError, Global};
 
@@ -24,8 +25,7 @@ impl Room {
         let cells = usize::from(cells);
         Ok(Room {
             rows: vec![in heap; none; cells]?,
-            // Kept: 16 trials, a number that boards do not hand out.
-            saved: vec![in heap; none; 16 * cells]?,
+            saved: vec![in heap; none; MOST_TRIALS * cells]?,
             plan: vec![in heap; 0; cells]?,
             scratch: vec![in heap; none; (cells + 1) * cells]?,
         })

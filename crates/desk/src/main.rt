@@ -14,8 +14,7 @@ use std::io::{BufRead, BufReader};
 use std::{env, fs};
 
 // The desk has room for every board.
-// Kept: the most cells of a board as the type that a room takes, since a constant cannot be made of one by try_from.
-const MOST_CELLS: u16 = 1024;
+const MOST_CELLS: u16 = board::unfit::MOST_CELLS as u16;
 
 const HELP: &str =
     "tighten CELL LOW HIGH\nopen\nkeep SERIAL\ndrop SERIAL\nask CELL\nsettle\nseek\nhelp\n";

@@ -9,7 +9,7 @@ use Rattle.job.specs.Contents.{entry_at, entries, entries_from, misordered, misp
 use Rattle.job.specs.Reading.{Found, Reading, refused, granted, unless, body, form_of, body_records, record_faults, found, nothing, bodies, reading}
 use Rattle.job.specs.Tallies.{spaced, held, tallied, no_tally}
 use Rattle.job.specs.Walked.{Walked}
-use Rattle.job.proofs.Listings.{never, left, left_more, kind_on, kind_off, place_on, place_off}
+use Rattle.job.proofs.Listings.{never, left, left_more, between_in, between_out, kind_on, kind_off, place_on, place_off}
 use Rattle.job.proofs.Gathered.{Fresh, Written, fresh_on, held_on, rules_held, length_spaced, cells_spaced}
 
 -- an entry of lawful contents, and what is left after it
@@ -24,8 +24,8 @@ placed_at : (f : List ℕ) (n i low high start : ℕ) (e : Entry) → i < n → 
     → misordered low high (1 + 9 * i) (left f n i) ≡ None → misplaced (length f) start (1 + 9 * i) (left f n i) ≡ None
     → Placed f n i low high start e
 placed_at f n i low high start e h d ord lay =
-    let a : low ≤ e.kind = elim (cases_lt e.kind low) [ inl l ↦ never _ (kind_off f n i low high e None h d (inl l) ord) | inr l ↦ l ] in
-    let b : e.kind ≤ high = elim (cases_lt high e.kind) [ inl l ↦ never _ (kind_off f n i low high e None h d (inr l) ord) | inr l ↦ l ] in
+    let a : low ≤ e.kind = elim (cases_lt e.kind low) [ inl l ↦ never _ (kind_off f n i low high e None h d (between_out low high e.kind (inl l)) ord) | inr l ↦ l ] in
+    let b : e.kind ≤ high = elim (cases_lt high e.kind) [ inl l ↦ never _ (kind_off f n i low high e None h d (between_out low high e.kind (inr l)) ord) | inr l ↦ l ] in
     let o : e.offset ≡ start = elim (cases_eq e.offset start) [ inl l ↦ l | inr l ↦ never _ (place_off f n i (length f) start e None h d (inl l) lay) ] in
     let c : e.offset + e.size ≤ length f = elim (cases_lt (length f) (e.offset + e.size)) [
       | inl l ↦ never _ (place_off f n i (length f) start e None h d (inr (inl l)) lay)
@@ -39,7 +39,7 @@ placed_at f n i low high start e h d ord lay =
       from = a;
       to = b;
       inside = c;
-      ordered = kind_on f n i low high e None h d a b ord;
+      ordered = kind_on f n i low high e None h d (between_in low high e.kind a b) ord;
       laid = place_on f n i (length f) start e None h d o c z lay;
     }
 
@@ -142,11 +142,11 @@ gathers_on f n i t table after e s b end g h d fs fb room w =
     none = (λ j. record_faults (sym fs j) e.offset t.cells (sym fb j) t.totals (body_records (sym fs j) (sym fb j))) ∙ w.faultless
 
 -- faultless contents, taken apart
-first_none : (a b : Option Refused) → first a b ≡ None → (a ≡ None) × (b ≡ None)
+pub first_none : (a b : Option Refused) → first a b ≡ None → (a ≡ None) × (b ≡ None)
 first_none (Some r) b e = never r (sym e)
 first_none None b e = (refl, e)
 
-when_none : (t : Bool) (r : Refused) → when t r ≡ None → t ≡ false
+pub when_none : (t : Bool) (r : Refused) → when t r ≡ None → t ≡ false
 when_none true r e = never r (sym e)
 when_none false r e = refl
 

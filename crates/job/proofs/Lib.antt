@@ -1,3 +1,4 @@
+pub mod Cells
 pub mod Codecs
 pub mod Files
 pub mod Gathered

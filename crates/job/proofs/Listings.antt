@@ -20,10 +20,10 @@ left_more f n i h = at (n - (i + 1)) (omega arith)
     at : (m : ℕ) → n - i ≡ suc m → left f n i ≡ entry_at f (1 + 9 * i) ∷ entries_from m f (1 + 9 * (i + 1))
     at m e = ap (λ (k : ℕ). entries_from k f (1 + 9 * i)) e ∙ ap (λ (p : ℕ). entry_at f (1 + 9 * i) ∷ entries_from m f p) (omega arith)
 
-between_in : (low high n : ℕ) → low ≤ n → n ≤ high → between low high n ≡ true
+pub between_in : (low high n : ℕ) → low ≤ n → n ≤ high → between low high n ≡ true
 between_in low high n h g = and_from (leb low n) (leb n high) (le-leb low n h) (le-leb n high g)
 
-between_out : (low high n : ℕ) → (n < low) ⊎ (high < n) → between low high n ≡ false
+pub between_out : (low high n : ℕ) → (n < low) ⊎ (high < n) → between low high n ≡ false
 between_out low high n (inl h) = and_left (leb low n) (leb n high) (lt-leb low n h)
 between_out low high n (inr h) = and_right (leb low n) (leb n high) (lt-leb n high h)
 
@@ -36,16 +36,16 @@ misordered_more f n i low high e all h d from =
     ∙ sym (ap (misordered low high (1 + 9 * i)) (left_more f n i h)) ∙ from
 
 pub kind_on : (f : List ℕ) (n i low high : ℕ) (e : Entry) (all : Option Refused) → i < n → e ≡ entry_at f (1 + 9 * i)
-    → low ≤ e.kind → e.kind ≤ high → misordered low high (1 + 9 * i) (left f n i) ≡ all
+    → between low high e.kind ≡ true → misordered low high (1 + 9 * i) (left f n i) ≡ all
     → misordered (e.kind + 1) 4 (1 + 9 * (i + 1)) (left f n (i + 1)) ≡ all
-kind_on f n i low high e all h d l g from =
-    ap (λ (t : Bool). cond t (misordered (e.kind + 1) 4 (1 + 9 * (i + 1)) (left f n (i + 1))) (Some (line 3 0 (1 + 9 * i)))) (sym (between_in low high e.kind l g))
+kind_on f n i low high e all h d fits from =
+    ap (λ (t : Bool). cond t (misordered (e.kind + 1) 4 (1 + 9 * (i + 1)) (left f n (i + 1))) (Some (line 3 0 (1 + 9 * i)))) (sym fits)
     ∙ misordered_more f n i low high e all h d from
 
 pub kind_off : (f : List ℕ) (n i low high : ℕ) (e : Entry) (all : Option Refused) → i < n → e ≡ entry_at f (1 + 9 * i)
-    → (e.kind < low) ⊎ (high < e.kind) → misordered low high (1 + 9 * i) (left f n i) ≡ all → all ≡ Some (line 3 0 (1 + 9 * i))
+    → between low high e.kind ≡ false → misordered low high (1 + 9 * i) (left f n i) ≡ all → all ≡ Some (line 3 0 (1 + 9 * i))
 kind_off f n i low high e all h d out from =
-    sym (ap (λ (t : Bool). cond t (misordered (e.kind + 1) 4 (1 + 9 * (i + 1)) (left f n (i + 1))) (Some (line 3 0 (1 + 9 * i)))) (sym (between_out low high e.kind out))
+    sym (ap (λ (t : Bool). cond t (misordered (e.kind + 1) 4 (1 + 9 * (i + 1)) (left f n (i + 1))) (Some (line 3 0 (1 + 9 * i)))) (sym out)
     ∙ misordered_more f n i low high e all h d from)
 
 ends_in : (f : List ℕ) (m p end all : ℕ) → end ≤ all → (m ≡ 0 → end ≡ all) → ends (entries_from m f p) end all ≡ true

@@ -7,6 +7,7 @@ use crate::entries::Entries;
 use crate::entry::ENTRY_BYTES;
 use crate::fault::ContentsFault;
 use crate::file::File;
+use crate::file::reach::MOST_BODIES;
 
 #[derive(Clone, Copy)]
 pub struct Contents<'f> {
@@ -30,12 +31,11 @@ impl<'f> Contents<'f> {
     }
 
     pub fn entries(self) -> Entries<'f>
-        ensures { (result.file.now ≡ self.entry.file.bytes.now) × (result.given ≡ 0) × (result.count ≡ self.entry.count) }
+        ensures { (result.file.now ≡ self.entry.file.bytes.now) × (result.numbers.start ≡ 0) × (result.numbers.end ≡ self.entry.count) }
     {
         Entries {
             file: self.file.bytes,
-            given: 0,
-            count: self.count,
+            numbers: 0..self.count,
         }
     }
 
@@ -44,14 +44,12 @@ impl<'f> Contents<'f> {
         ensures { MatchResult result (λ _. misordered 1 1 1 (entries_from self.entry.count self.entry.file.bytes.now 1) ≡ None) (λ e. misordered 1 1 1 (entries_from self.entry.count self.entry.file.bytes.now 1) ≡ Some (of_contents e)) }
     {
         // Kept: kinds are compared by their numbers here, since what is read may be the number of none.
-        let mut low = 1;
-        let mut high = 1;
+        let mut due = 1..=1;
         for (place, entry) in self.entries() {
-            if entry.kind < low || entry.kind > high {
+            if !due.contains(&entry.kind) {
                 return Err(ContentsFault::Kind { place });
             }
-            low = entry.kind + 1;
-            high = 4;
+            due = entry.kind + 1..=MOST_BODIES;
         }
         Ok(())
     }
@@ -66,7 +64,7 @@ impl<'f> Contents<'f> {
         for (place, entry) in self.entries() {
             let end = entry.end();
             let last = place + ENTRY_BYTES == contents_end;
-            if entry.offset as usize != start || end > all || (last && end != all) {
+            if entry.start() != start || end > all || (last && end != all) {
                 return Err(ContentsFault::Layout { place });
             }
             start = end;

@@ -26,11 +26,18 @@ impl Entry {
         }
     }
 
-    // Where its body ends.
+    // Where its body begins.
+    // Kept: no From takes a u32 to a usize, here and below.
+    pub fn start(self) -> usize
+        ensures { result ≡ self.offset }
+    {
+        self.offset as usize
+    }
+
+    // Where it ends.
     pub fn end(self) -> usize
         ensures { result ≡ self.offset + self.size }
     {
-        // Kept: no From takes a u32 to a usize.
-        self.offset as usize + self.size as usize
+        self.start() + self.size as usize
     }
 }

@@ -7,4 +7,4 @@ pub struct File<'f> {
     ghost short: { length bytes.now ≤ 65535 },
 }
 
-mod reach;
+pub mod reach;

@@ -1,5 +1,7 @@
 // A job, read from its file's bytes and standing on them.
-ghost use Rattle.std.specs.Prelude.{◌≤◌};
+ghost use Rattle.std.specs.Prelude.{◌≡◌, ◌≤◌, true, map};
+ghost use Rattle.bounds.specs.Boards.{sound};
+ghost use Rattle.job.specs.Tallies.{spaced, row_at};
 
 use crate::tally::Tally;
 
@@ -15,6 +17,9 @@ pub struct Job<'f> {
     ghost plates_first: { tally.plates ≤ tally.triples },
     ghost totals_last: { tally.triples ≤ tally.totals },
     ghost few: { tally.totals ≤ 1024 },
+    ghost some_cells: { 1 ≤ tally.cells },
+    ghost few_cells: { tally.cells ≤ 1024 },
+    ghost sound_cells: { sound (map (row_at file.now) (spaced tally.cells tally.start)) ≡ true },
 }
 
 mod found;

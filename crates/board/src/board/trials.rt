@@ -3,8 +3,8 @@ ghost use Rattle.std.specs.Prelude.{◌≡◌, ◌+◌, ◌*◌, ◌≤◌, fals
 ghost use Rattle.board.specs.Held.{event_of_open, event_of_keep, event_of_drop, Did, Frame, OnlyRows, Outside, Pasted, Places, slot};
 
 use super::Board;
-use crate::control::MOST_TRIALS;
 use crate::refusal::Refusal;
+use crate::unfit::MOST_TRIALS;
 use bounds::row::Row;
 
 // What opening a trial gives out, to be spent on keeping or dropping it.

@@ -10,13 +10,14 @@ use records::kind::Kind;
 
 impl<'f> Body<'f> {
     // A body of a kind that is none is read as one of totals; lawful contents have no such entry.
+    // Kept: so has the definition of a reading, and no type of an entry says that its kind is one.
     pub fn of(file: File<'f>, entry: Entry) -> Body<'f>
         requires { entry.offset + entry.size ≤ length file.bytes.now }
         ensures kind { body_form result ≡ form_of entry.kind }
         ensures bytes { body_bytes result ≡ body file.entry.bytes.now entry }
         ensures short { entry.offset + length (body_bytes result) ≤ 65535 }
     {
-        let bytes = &file.bytes[entry.offset as usize..entry.end()];
+        let bytes = &file.bytes[entry.start()..entry.end()];
         match Kind::try_from(entry.kind) {
             Ok(Kind::Cells) => Body::Cells(bytes),
             Ok(Kind::Plates) => Body::Plates(bytes),

@@ -12,7 +12,7 @@ use records::fault::ByteFault;
 const MOST_BYTES: usize = 65535;
 
 // One of each kind.
-const MOST_BODIES: u8 = 4;
+pub const MOST_BODIES: u8 = 4;
 
 impl<'f> File<'f> {
     pub fn of(bytes: &'f [u8]) -> Result<File<'f>, ContentsFault>
