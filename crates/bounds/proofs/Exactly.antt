@@ -1,16 +1,11 @@
 -- What `exact` is.
 use Rattle.std.proofs.Common.{◌≡◌, ℕ, ◌<◌, Bool, true, cond, ◌↔◌, List, length, get_or, sym, ◌∙◌, subst}
-use mathlib.Core.List.{Memᴰ}
 use Rattle.std.proofs.lemmas.Bool.{cond_both, both_ways}
 use Rattle.bounds.specs.declared.row.Row.{Row}
 use Rattle.bounds.specs.Boards.{void, cells, sound, Inside, Fills}
-use Rattle.bounds.specs.Exact.{fillings, exact}
+use Rattle.bounds.specs.Exact.{exact}
 use Rattle.bounds.proofs.Places.{low_at, high_at, fills_length, fills_sound}
-use Rattle.bounds.proofs.Members.{in_fillings, fillings_has}
-use Rattle.bounds.proofs.Hulls.{Tight, Hull, Meeting, exact_is, narrowest, hull_one, hull_real}
-
-pub fillings_are : (p : List ℕ) (a : List Row) → Fills p a ↔ Memᴰ p (fillings a)
-fillings_are p a = (fillings_has p a, in_fillings p a)
+use Rattle.bounds.proofs.Hulls.{Tight, Hull, Meeting, exact_is, narrowest, hull_one}
 
 module _ (meets : List ℕ → Bool) (a : List Row) where
   pub exact_void : (exact meets a ≡ void) ↔ ((p : List ℕ) → Meeting meets a p → ⊥)
@@ -35,9 +30,6 @@ module _ (meets : List ℕ → Bool) (a : List Row) where
       (λ s. exact_void.1 (λ p m. both_ways (sound g) s (fills_sound p g (holds p m))))
 
   module _ (g : List Row) (t : Tight (Meeting meets a) g) where
-    pub tight_sound : sound g ≡ true
-    tight_sound = hull_real (Meeting meets a) (cells g) t
-
     pub tight_inside : Inside g a
     tight_inside = narrowest (Meeting meets a) (cells g) (cells a) t (λ p m. m.0)
 

@@ -7,7 +7,7 @@ use Rattle.bounds.specs.Boards.{Board, void, cells, sound, Real, Inside, Within,
 use Rattle.bounds.specs.Laws.{Rule, idle, Laws, FiveLaws, Touched, Untouched, Alike}
 use Rattle.bounds.specs.Exact.{exact}
 use Rattle.bounds.specs.Scoped.{Scoped, fits, names, distinct, gather, scatter, put, on_board, ScopedLaws, exact_on}
-use Rattle.bounds.specs.Listed.{numbered, listed}
+use Rattle.bounds.specs.Listed.{numbered}
 use Rattle.bounds.proofs.Places.{low_at, high_at, fills_length, fills_at, at_fills, at_inside, inside_at, at_sound, sound_at, at_fixed, fixed_one}
 use Rattle.bounds.proofs.Rows.{fills_lows, fills_highs, lows_at, highs_at, inside_length, inside_all, cells_void, cells_same}
 use Rattle.bounds.proofs.Hulls.{Hull, Meeting, exact_is, hull_one}
@@ -298,7 +298,3 @@ numbered_lawful size at laws =
       each = λ r. cond_both (ltb r n) _ _ (λ (u : Rule). Laws u) (λ _. lifted_laws (at r) (laws r)) (λ _. idle_laws);
       beyond = λ r l. cond-false (ltb r n) _ idle (le-ltb r n l);
     }
-
-pub listed_lawful : (at : List ℕ → ℕ → Scoped) → ((f : List ℕ) (i : ℕ) → ScopedLaws (at f i)) → (file places : List ℕ) → FiveLaws (listed at file places)
-listed_lawful at laws file places =
-    numbered_lawful (length places) (λ r. at file (get_or places r 0)) (λ r. laws file (get_or places r 0))

@@ -1,6 +1,6 @@
 -- Gathering what stands at the cells of a scope, and scattering it back, place by place.
-use Rattle.std.proofs.Common.{◌≡◌, ℕ, zero, suc, ◌+◌, ◌<◌, ◌≤◌, true, false, not, eqb, ltb, ◌≢◌, List, [], ◌∷◌, length, get_or, drop, set, sym, refl, ap, ◌∙◌, subst, inl, inr, arith}
-use Rattle.std.proofs.lemmas.List.{length-set, set-get_or, get_or-set_same, get_or-set_other, ext_get_or, drop_more, at_drop_all}
+use Rattle.std.proofs.Common.{◌≡◌, ℕ, zero, suc, ◌+◌, ◌<◌, true, false, not, eqb, ltb, ◌≢◌, List, [], ◌∷◌, length, get_or, drop, set, sym, refl, ap, ◌∙◌, subst, inl, inr, arith}
+use Rattle.std.proofs.lemmas.List.{length-set, set-get_or, get_or-set_same, get_or-set_other, ext_get_or, drop_more}
 use Rattle.std.proofs.lemmas.Bool.{ltb-true, lt-ltb, eq-eqb, ne_eqb, cond-true, cond-false, cond_both, cases_eq, cases_Bool, both_ways, eqb-true, not-true, and_parts, and_from}
 use Rattle.bounds.specs.Scoped.{fits, names, distinct, gather, scatter}
 
@@ -125,6 +125,3 @@ gather_scatter d (c ∷ cs) (x ∷ g) xs once fit e =
 pub scatter_more : {A : Type 0} (cs : List ℕ) (g xs : List A) (i : ℕ) (d : A) → i < length cs → length g ≡ length cs
     → scatter (drop i cs) (drop i g) xs ≡ scatter (drop (i + 1) cs) (drop (i + 1) g) (set xs (get_or cs i 0) (get_or g i d))
 scatter_more cs g xs i d l e = rw (drop_more cs i 0 l, drop_more g i d (omega arith)) refl
-
-pub scatter_all : {A : Type 0} (cs : List ℕ) (g xs : List A) (i : ℕ) → length cs ≤ i → scatter (drop i cs) g xs ≡ xs
-scatter_all cs g xs i l = at_drop_all (λ x. scatter x g xs) cs i l
