@@ -1,7 +1,7 @@
 -- What `==` on rows tells.
-use Rattle.std.proofs.Common.{◌≡◌, Bool, true, false, ◌&&◌, not, eqb, List, Decides, refl, ap}
+use Rattle.std.proofs.Common.{◌≡◌, Bool, true, false, ◌&&◌, not, eqb, ◌≢◌, ◌⊎◌, List, Decides, sym, refl, ap, ◌∙◌, inl, inr}
 use Rattle.std.specs.Cmp.Lexicographic.{pointwise, pointwise_decides}
-use Rattle.std.proofs.lemmas.Bool.{true≢false, false≢true}
+use Rattle.std.proofs.lemmas.Bool.{true≢false, false≢true, cases_Bool}
 use Rattle.std.proofs.lemmas.Bool.Decides.{Decides-at, Decides-like, Decides-and, Decides-eqb}
 use Rattle.bounds.specs.declared.row.Row.{Row}
 use Rattle.bounds.proofs.Places.{same_row}
@@ -29,3 +29,10 @@ module _ (r s : Row) where
 -- and on lists of them
 pub rows_decided : (xs ys : List Row) (r : Bool) → (r ≡ pointwise same_row_test xs ys) → Decides r (xs ≡ ys)
 rows_decided xs ys r e = Decides-at r _ e (pointwise_decides (λ a b. compared_decides a b _ refl) xs ys)
+
+-- and as `grind` takes it
+pub rows_tested : (xs ys : List Row) → ((pointwise same_row_test xs ys ≡ true) × (xs ≡ ys)) ⊎ ((pointwise same_row_test xs ys ≡ false) × (xs ≢ ys))
+rows_tested xs ys = let d = rows_decided xs ys _ refl in elim (cases_Bool (pointwise same_row_test xs ys)) [
+  | inl e ↦ inl (e, d.0 e)
+  | inr e ↦ inr (e, λ k. true≢false (sym (d.1 k) ∙ e))
+]
