@@ -1,14 +1,15 @@
 -- The narrowed rows of each kind in closed form, and that they are exact.
-use Rattle.std.proofs.Common.{◌≡◌, ℕ, zero, suc, ◌+◌, ◌-◌, ◌<◌, ◌≤◌, min, max, Bool, true, cond, ◌⊎◌, List, [], ◌∷◌, refl, inl, inr, arith}
+use Rattle.std.proofs.Common.{◌≡◌, ℕ, zero, suc, ◌+◌, ◌-◌, ◌<◌, ◌≤◌, min, max, Bool, true, cond, ◌⊎◌, List, [], ◌∷◌, length, refl, ap, ◌∙◌, inl, inr, arith}
 use Rattle.std.proofs.lemmas.Bool.{leb-true, le-leb, cases_lt}
 use Rattle.bounds.specs.declared.row.Row.{Row}
 use Rattle.bounds.specs.Boards.{void, cells, sound, Fills}
 use Rattle.bounds.specs.Exact.{exact}
 use Rattle.bounds.proofs.Places.{sound_at}
 use Rattle.bounds.proofs.Hulls.{Meeting}
-use Rattle.triples.specs.Triples.{relation}
+use Rattle.triples.specs.Triples.{makes, relation}
 use Rattle.records.specs.declared.triples.TripleKind.TheVariants.{Union, Intersection, UnionPlus, Subset}
-use Rattle.rules.proofs.Rows.{two, three, Cut}
+use Rattle.bounds.specs.Cells.{common}
+use Rattle.rules.proofs.Rows.{two, three, as_two, as_three, row_at, Cut}
 use Rattle.rules.proofs.Reached.{In, Reached, exact_reached}
 use Rattle.triples.proofs.Frames.{Sound, Narrowed, exact_three}
 
@@ -85,17 +86,51 @@ module _ (a b c g h k : Row) where
             let (m, n, v, w, e) = parts a b z t.0 t.1 (omega arith) (omega arith) in (m, n, (v, w, (omega arith, omega arith)), e);
       }
 
-  abbrev Exact : (List ℕ → Bool) → Type 0
-  Exact meets = exact meets (three a b c) ≡ cond (sound (three g h k)) (cells (three g h k)) void
+-- the same of the rows of an array
+module _ (rows : List Row) (whole : length rows ≡ 3) where
+  abbrev pub first : Row
+  first = row_at rows 0
 
-  pub union_exact : (x y : ℕ) → UnionRows a b c g h k x y → Exact (relation Union)
-  union_exact x y u = exact_three max a b c g h k (union_narrowed x y u)
+  abbrev pub second : Row
+  second = row_at rows 1
 
-  pub intersection_exact : (x y : ℕ) → IntersectionRows a b c g h k x y → Exact (relation Intersection)
-  intersection_exact x y u = exact_three min a b c g h k (intersection_narrowed x y u)
+  abbrev pub third : Row
+  third = row_at rows 2
 
-  pub plus_exact : (top : ℕ) → PlusRows a b c g h k top → Exact (relation UnionPlus)
-  plus_exact top u = exact_three ◌+◌ a b c g h k (plus_narrowed top u)
+  abbrev pub ExactRows : (List ℕ → Bool) → Row → Row → Row → Type 0
+  ExactRows meets g h k = exact meets rows ≡ cond (sound (three g h k)) (cells (three g h k)) void
+
+  exact_rows : (op : ℕ → ℕ → ℕ) (g h k : Row) → Narrowed op first second third g h k → ExactRows (makes op) g h k
+  exact_rows op g h k n = ap (exact (makes op)) (as_three rows whole) ∙ exact_three op first second third g h k n
+
+  pub union_array : (x y : ℕ) → let k = common third (max first.low second.low) (max first.high second.high) in
+      IfBelow second.high k.low x k.low first.low → IfBelow first.high k.low y k.low second.low
+      → ExactRows (relation Union) (common first x k.high) (common second y k.high) k
+  union_array x y p q =
+      let k : Row = common third (max first.low second.low) (max first.high second.high) in
+      let g : Row = common first x k.high in
+      let h : Row = common second y k.high in
+      exact_rows max g h k (union_narrowed first second third g h k x y
+      (record { first = (refl, refl); second = (refl, refl); whole = (refl, refl); first_low = p; second_low = q }))
+
+  pub intersection_array : (x y : ℕ) → let k = common third (min first.low second.low) (min first.high second.high) in
+      IfBelow k.high second.low x k.high first.high → IfBelow k.high first.low y k.high second.high
+      → ExactRows (relation Intersection) (common first k.low x) (common second k.low y) k
+  intersection_array x y p q =
+      let k : Row = common third (min first.low second.low) (min first.high second.high) in
+      let g : Row = common first k.low x in
+      let h : Row = common second k.low y in
+      exact_rows min g h k (intersection_narrowed first second third g h k x y
+      (record { first = (refl, refl); second = (refl, refl); whole = (refl, refl); first_high = p; second_high = q }))
+
+  pub plus_array : third.high ≤ 65535
+      → ExactRows (relation UnionPlus) (common first (third.low - second.high) (third.high - second.low)) (common second (third.low - first.high) (third.high - first.low))
+          (common third (min (first.low + second.low) 65535) (min (first.high + second.high) 65535))
+  plus_array p =
+      let g : Row = common first (third.low - second.high) (third.high - second.low) in
+      let h : Row = common second (third.low - first.high) (third.high - first.low) in
+      let k : Row = common third (min (first.low + second.low) 65535) (min (first.high + second.high) 65535) in
+      exact_rows ◌+◌ g h k (plus_narrowed first second third g h k 65535 (record { first = (refl, refl); second = (refl, refl); whole = (refl, refl); room = p }))
 
 -- a subset: the first has at most the second's most, the second at least the first's least
 module _ (a b g h : Row) (first : Cut g a 0 b.high) (second : Cut h b a.low b.high) where
@@ -115,3 +150,8 @@ module _ (a b g h : Row) (first : Cut g a 0 b.high) (second : Cut h b a.low b.hi
 
   pub subset_exact : exact (relation Subset) (two a b) ≡ cond (sound (two g h)) (cells (two g h)) void
   subset_exact = exact_reached (relation Subset) (two a b) (two g h) (omega arith) held reached
+
+pub subset_array : (rows : List Row) → length rows ≡ 2
+    → let a = row_at rows 0 in let b = row_at rows 1 in let g = common a 0 b.high in let h = common b a.low b.high in
+    exact (relation Subset) rows ≡ cond (sound (two g h)) (cells (two g h)) void
+subset_array rows e = ap (exact (relation Subset)) (as_two rows e) ∙ subset_exact (row_at rows 0) (row_at rows 1) _ _ (refl, refl) (refl, refl)

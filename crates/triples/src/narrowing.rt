@@ -57,6 +57,7 @@ fn summed(row: Row, a: Row, b: Row) -> Row
 }
 
 // The third is the sum of the first two.
+#[tactic(auto, using(crate::proofs::Closed::plus_array))]
 pub fn union_plus(rows: [Row; 3]) -> Option<[Row; 3]>
     ensures { board_of result ≡ exact (relation TripleKind.UnionPlus) rows }
 {
@@ -69,6 +70,7 @@ pub fn union_plus(rows: [Row; 3]) -> Option<[Row; 3]>
 }
 
 // The first is at most the second.
+#[tactic(auto, using(crate::proofs::Closed::subset_array))]
 pub fn subset(rows: [Row; 2]) -> Option<[Row; 2]>
     ensures { board_of result ≡ exact (relation TripleKind.Subset) rows }
 {
