@@ -1,5 +1,5 @@
 -- What counts weigh.
-use Rattle.std.proofs.Common.{◌≡◌, ℕ, zero, suc, ◌+◌, ◌*◌, ◌<◌, ◌≤◌, true, List, [], ◌∷◌, length, get_or, take, set, sym, refl, ap, ◌∙◌, ap₂, mul-le-mul_left, add-one, arith}
+use Rattle.std.proofs.Common.{◌≡◌, ℕ, zero, suc, ◌+◌, ◌*◌, ◌<◌, ◌≤◌, true, List, [], ◌∷◌, length, get_or, take, set, refl, ap, ◌∙◌, ap₂, mul-le-mul_left, add-one, arith}
 use Rattle.bounds.specs.declared.row.Row.{Row}
 use Rattle.bounds.specs.Boards.{sound, Inside, Fills, Fixed, lows, highs, none_row}
 use Rattle.bounds.proofs.Places.{fills_inside}
@@ -67,17 +67,10 @@ bounded_at l [] (r ∷ a) i h e = absurd (omega arith)
 bounded_at l (w ∷ ws) (r ∷ a) zero h e = refl
 bounded_at l (w ∷ ws) (r ∷ a) (suc i) h e = bounded_at l ws a i (omega arith) (omega arith)
 
-weighed_none : (ws : List ℕ) → weighed ws [] ≡ 0
-weighed_none [] = refl
-weighed_none (w ∷ ws) = refl
-
 same_limits : (l m : Limits) → l.floor ≡ m.floor → l.ceiling ≡ m.ceiling → l.least ≡ m.least → l.most ≡ m.most → l ≡ m
 same_limits l m a b c d = λ i. record { floor = a i; ceiling = b i; least = c i; most = d i }
 
 module _ (ws : List ℕ) (floor ceiling : ℕ) where
-  pub limits_none : limits [] floor ceiling [] ≡ limits ws floor ceiling []
-  limits_none = let e = weighed_none ws in same_limits _ _ refl refl (sym e) (sym e)
-
   -- m is l with cell i weighed too
   pub limits_more : (a : List Row) (i : ℕ) (l m : Limits) → i < length a → length ws ≡ length a → l ≡ limits ws floor ceiling (take i a)
       → m.floor ≡ l.floor → m.ceiling ≡ l.ceiling
