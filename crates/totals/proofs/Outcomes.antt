@@ -21,9 +21,6 @@ Told g a i Void = ⊥
 abbrev pub Far : List Row → List Row → ℕ → Change → Type 0
 Far g a i change = ((k : ℕ) → k < i → low_at g k ≤ high_at g k) × Told g a i change
 
-pub far_none : (g a : List Row) → Far g a 0 Quiet
-far_none g a = (λ k h. absurd (omega arith), λ k h. absurd (omega arith))
-
 module _ (g a : List Row) (i : ℕ) where
   pub far_same : (c : Change) → Far g a i c → low_at g i ≤ high_at g i → get_or g i none_row ≡ get_or a i none_row → Far g a (i + 1) c
   far_same Quiet f s e = (below_more _ i f.0 s, below_more _ i f.1 e)

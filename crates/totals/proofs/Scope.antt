@@ -1,19 +1,15 @@
 -- The rule of a total, on the rows of its scope.
-use Rattle.std.proofs.Common.{◌≡◌, ℕ, ◌+◌, ◌*◌, ◌<◌, true, List, length, get_or, sym, ap, ◌∙◌, subst, inl, inr, arith}
+use Rattle.std.proofs.Common.{◌≡◌, ℕ, ◌+◌, ◌*◌, ◌<◌, ◌≤◌, true, ◌⊎◌, length, get_or, sym, ap, ◌∙◌, subst, inl, inr, arith}
 use lib.ListN.{length-map}
 use Rattle.std.proofs.lemmas.Bool.{cases_Bool}
 use Rattle.records.specs.Bytes.{number}
 use Rattle.records.specs.Records as records
-use Rattle.records.specs.Forms.{total_limits}
-use Rattle.bounds.specs.declared.row.Row.{Row}
-use Rattle.bounds.specs.Boards.{cells}
+use Rattle.records.specs.Forms.{weighted, total_limits}
 use Rattle.bounds.specs.Scoped.{Scoped}
-use Rattle.linear.specs.declared.limits.Limits.{Limits}
 use Rattle.linear.specs.Totals.{total_scoped}
-use Rattle.linear.proofs.TotalLaws.{Lawful, lawful_says, total_stated, total_unnamed, named_lawful, as_many}
+use Rattle.linear.proofs.TotalLaws.{lawful_says, total_stated, total_unnamed, named_lawful, as_many}
 use Rattle.totals.specs.declared.total.Total.{Total}
 use Rattle.totals.specs.Read.{record_of}
-use Rattle.totals.specs.Narrowing.{limits_of, Opened}
 use Rattle.records.proofs.Fields.{length_terms, get_or_cells}
 
 pub scope_length : (t : records.Total) → total_limits t ≡ true → length (total_scoped t).scope ≡ length t.terms
@@ -31,22 +27,10 @@ module _ (t : Total) (i : ℕ) (h : i < length (total_scoped (record_of t)).scop
       ap (λ (s : Scoped). get_or s.scope i 0) (total_stated (record_of t) e)
       ∙ get_or_cells _ t.spot.bytes.now (t.spot.place + 18) i (subst (λ n. i < n) (length_terms _ _ _) inside)
 
-module _ (t : Total) (a : List Row) (many : length a ≡ length (total_scoped (record_of t)).scope) where
-  pub quiet_if_empty : length a ≡ 0 → (total_scoped (record_of t)).narrowing a ≡ cells a
-  quiet_if_empty z = elim (cases_Bool (total_limits (record_of t))) [
-    | inl e ↦ absurd (omega (arith, (lawful_says (record_of t) e).some, scope_length (record_of t) e))
-    | inr e ↦ ap (λ (s : Scoped). s.narrowing a) (total_unnamed (record_of t) e)
-  ]
-
-  module _ (some : 0 < length a) where
-    keeps_limits : total_limits (record_of t) ≡ true
-    keeps_limits = named_lawful (record_of t) 0 (omega arith)
-
-    pub says : Lawful (record_of t)
-    says = lawful_says (record_of t) keeps_limits
-
-    pub all_terms : length a ≡ length (record_of t).terms
-    all_terms = many ∙ scope_length (record_of t) keeps_limits
-
-    pub opened : (l : Limits) → l ≡ limits_of t a → Opened t a l
-    opened l value = record { many = all_terms; few = omega (arith, all_terms, says.few); lawful = says.weights; value = value }
+-- no cell is named, or those of a record that keeps its limits
+pub scope_told : (t : records.Total) → (length (total_scoped t).scope ≡ 0)
+    ⊎ ((length (total_scoped t).scope ≡ length t.terms) × (length t.terms ≤ 64) × (weighted t.terms ≡ true))
+scope_told t = elim (cases_Bool (total_limits t)) [
+  | inl e ↦ let l = lawful_says t e in inr (scope_length t e, l.few, l.weights)
+  | inr e ↦ inl (ap (λ (s : Scoped). length s.scope) (total_unnamed t e))
+]

@@ -10,10 +10,10 @@ use Rattle.totals.proofs.Opened.{ready, new_at, new_length}
 use Rattle.totals.proofs.total.Total.outcome.Goals as goal
 
 pub bound-new-requires : goal.bound-new-requires
-bound-new-requires c =
-    let o = c.requires in
-    let r = ready c.args.self.now c.args.own.now c.args.limits.sum o c.loop-i.i c.weight.result c.loop-i-test.true c.weight.ensures in
-    record { weight = r.weight; low = r.low; high = r.high }
+bound-new-requires c = grind (
+  arith,
+  ready c.args.self.now c.args.own.now c.args.limits.sum c.requires c.loop-i.i c.weight.result c.loop-i-test.true c.weight.ensures,
+)
 
 pub returns-then-not-is_sound : goal.returns-then-not-is_sound
 returns-then-not-is_sound c =

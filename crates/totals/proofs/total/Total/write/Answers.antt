@@ -1,21 +1,18 @@
-use Rattle.std.proofs.Common.{◌<◌, ◌≢◌, length, sym, ap, ◌∙◌, subst, arith, below_more}
+use Rattle.std.proofs.Common.{◌<◌, ◌≢◌, length, sym, ap, ◌∙◌, arith, below_more}
 use Rattle.std.proofs.lemmas.List.{get_or-set_same, get_or-set_other}
-use Rattle.bounds.specs.declared.row.Row.{Row}
 use Rattle.bounds.specs.Boards.{none_row}
 use Rattle.bounds.proofs.Places.{same_rows}
 use Rattle.linear.specs.Linear.{bounded}
 use Rattle.totals.specs.Narrowing.{new_rows}
-use Rattle.totals.proofs.Opened.{Ready, ready, new_at, new_length}
+use Rattle.totals.proofs.Opened.{ready, new_at, new_length}
 use Rattle.totals.proofs.total.Total.write.Goals as goal
 
 pub bound-requires : goal.bound-requires
-bound-requires c =
-    let o = c.requires in
-    let i = c.loop-i.i in
-    let same = c.loop-i.invariant.1 i (omega arith) in
-    let r = subst (λ (x : Row). Ready c.args.limits.sum c.weight.result x) (sym same)
-    (ready c.args.self.now c.args.own.now c.args.limits.sum o i c.weight.result c.loop-i-test.true c.weight.ensures) in
-    record { weight = r.weight; low = r.low; high = r.high }
+bound-requires c = grind (
+  arith,
+  ready c.args.self.now c.args.own.now c.args.limits.sum c.requires c.loop-i.i c.weight.result c.loop-i-test.true c.weight.ensures,
+  c.loop-i.invariant.1 c.loop-i.i,
+)
 
 pub loop-i-preserved : goal.loop-i-preserved
 loop-i-preserved c =
