@@ -1,5 +1,5 @@
 -- A loop that adds up the rows, the last first.
-use Rattle.std.proofs.Common.{◌≡◌, ℕ, zero, suc, ◌+◌, ◌*◌, ◌<◌, ◌≤◌, max, List, [], ◌∷◌, ◌++◌, reverse, length, length-append, get_or, set, sym, refl, ◌∙◌, subst₂, inl, inr, arith}
+use Rattle.std.proofs.Common.{◌≡◌, ℕ, zero, suc, ◌+◌, ◌*◌, ◌<◌, ◌≤◌, max, List, [], ◌∷◌, ◌++◌, reverse, length, length-append, get_or, sym, ◌∙◌, subst₂, inl, inr, arith}
 use Rattle.std.proofs.lemmas.List.{reverse-append}
 use Rattle.std.proofs.lemmas.Bool.{cases_lt}
 use Rattle.bounds.specs.declared.row.Row.{Row}
@@ -13,17 +13,6 @@ Added cs t s n = Summed cs s n × Topped cs t s n
 
 abbrev pub sums : ℕ → ℕ → ℕ → ℕ → Sums
 sums c o l b = record { certain = c; optional = o; lows = l; base = b }
-
-pub added_nil : (t : List ℕ) (n : ℕ) → 0 < length t → Added [] (set t 0 0) (sums 0 0 0 0) n
-added_nil [] n p = absurd (omega arith)
-added_nil (x ∷ t) n p = (
-  record { certains = refl; optionals = refl; least = refl; bases = refl; few = omega arith; light = omega arith; heavy = omega arith },
-  record { tops = only_zero; limit = λ k q. omega (arith, only_zero k q) },
-)
-  where
-    only_zero : (k : ℕ) → k ≤ 0 → get_or (0 ∷ t) k 0 ≡ 0
-    only_zero zero q = refl
-    only_zero (suc k) q = absurd (omega arith)
 
 module _ (cs : List Row) (t : List ℕ) (s : Sums) (n : ℕ) (w : Added cs t s n) where
   pub certain_front : (l h a b : ℕ) → a ≡ l → b ≡ h → 0 < l → l < 65536 → h < 65536
