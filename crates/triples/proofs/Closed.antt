@@ -125,7 +125,7 @@ module _ (rows : List Row) (whole : length rows ≡ 3) where
 
   pub plus_array : third.high ≤ 65535
       → ExactRows (relation UnionPlus) (common first (third.low - second.high) (third.high - second.low)) (common second (third.low - first.high) (third.high - first.low))
-          (common third (min (first.low + second.low) 65535) (min (first.high + second.high) 65535))
+      (common third (min (first.low + second.low) 65535) (min (first.high + second.high) 65535))
   plus_array p =
       let g : Row = common first (third.low - second.high) (third.high - second.low) in
       let h : Row = common second (third.low - first.high) (third.high - first.low) in
