@@ -1,12 +1,13 @@
 -- The narrowed rows of a mirror in closed form, and that they are exact.
-use Rattle.std.proofs.Common.{◌≡◌, ℕ, zero, suc, ◌+◌, ◌-◌, ◌≤◌, min, max, true, cond, List, [], ◌∷◌, refl, arith}
+use Rattle.std.proofs.Common.{◌≡◌, ℕ, zero, suc, ◌+◌, ◌-◌, ◌≤◌, min, max, true, cond, List, [], ◌∷◌, length, refl, ap, ◌∙◌, arith}
 use Rattle.std.proofs.lemmas.Bool.{leb-true, le-leb}
 use Rattle.bounds.specs.declared.row.Row.{Row}
 use Rattle.bounds.specs.Boards.{void, cells, sound, Fills}
+use Rattle.bounds.specs.Cells.{common}
 use Rattle.bounds.specs.Exact.{exact}
 use Rattle.bounds.proofs.Places.{sound_at}
 use Rattle.bounds.proofs.Hulls.{Meeting}
-use Rattle.rules.proofs.Rows.{two, Cut}
+use Rattle.rules.proofs.Rows.{two, as_two, row_at, Cut}
 use Rattle.rules.proofs.Reached.{In, Reached, exact_reached}
 use Rattle.house.specs.Mirrors.{alike}
 
@@ -30,3 +31,9 @@ module _ (most : ℕ) (a b g h : Row) (left : Cut g a (b.low - most) (b.high + m
 
   pub mirror_exact : exact (alike most) (two a b) ≡ cond (sound (two g h)) (cells (two g h)) void
   mirror_exact = exact_reached (alike most) (two a b) (two g h) (omega arith) held reached
+
+-- the same of the rows of an array
+pub mirror_array : (most : ℕ) (rows : List Row) → length rows ≡ 2
+    → let a = row_at rows 0 in let b = row_at rows 1 in let g = common a (b.low - most) (b.high + most) in let h = common b (a.low - most) (a.high + most) in
+    exact (alike most) rows ≡ cond (sound (two g h)) (cells (two g h)) void
+mirror_array most rows e = ap (exact (alike most)) (as_two rows e) ∙ mirror_exact most (row_at rows 0) (row_at rows 1) _ _ (refl, refl) (refl, refl)

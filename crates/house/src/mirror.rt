@@ -17,6 +17,7 @@ pub struct Mirror {
 
 impl Mirror {
     // The rows of the left and the right cell narrowed together; None where no two of their counts are near enough.
+    #[tactic(auto, using(crate::proofs::Closed::mirror_array))]
     pub fn narrowed(self, rows: [Row; 2]) -> Option<[Row; 2]>
         ensures { board_of result ≡ exact (alike self.most) rows }
     {
