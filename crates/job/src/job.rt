@@ -6,6 +6,7 @@ ghost use Rattle.job.specs.Tallies.{spaced, row_at};
 use crate::tally::Tally;
 
 // The most rules, and the most cells.
+// Kept: one limit, since cells and rules are numbered by one walk; a board's cells and a family's rules have limits of their own.
 pub const MOST_RULES: usize = 1024;
 
 // Kept: a table and where its kinds end, in the job itself: a file is read without memory of its own, so that none is refused for want of it.

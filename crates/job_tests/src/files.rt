@@ -1,7 +1,7 @@
 // Files to be read, and what becomes of them.
 use job::job::Job;
 use records::refused::Refused;
-use std::alloc::{AllocError, AllocFailed, Global};
+use std::alloc::{AllocError, Global};
 
 // How many cells and rules of each kind a job has.
 #[derive(Clone, Copy, PartialEq, Eq, Debug)]
@@ -31,21 +31,17 @@ pub fn fault_at(number: u8, kind: u8, place: u16) -> Result<Sizes, Refused> {
     })
 }
 
-fn put_u16(file: &mut Vec<u8>, n: u16) -> Result<(), AllocFailed<u8>> {
-    let [low, high] = n.to_le_bytes();
-    file.push(low)?;
-    file.push(high)
+fn put_u16(file: &mut Vec<u8>, n: u16) -> Result<(), AllocError> {
+    file.extend_from_slice(&n.to_le_bytes())
 }
 
-fn put_entry(file: &mut Vec<u8>, kind: u8, offset: u16, size: u16) -> Result<(), AllocFailed<u8>> {
+fn put_entry(file: &mut Vec<u8>, kind: u8, offset: u16, size: u16) -> Result<(), AllocError> {
     file.push(kind)?;
-    put_u16(file, offset)?;
-    put_u16(file, 0)?;
-    put_u16(file, size)?;
-    put_u16(file, 0)
+    file.extend_from_slice(&u32::from(offset).to_le_bytes())?;
+    file.extend_from_slice(&u32::from(size).to_le_bytes())
 }
 
-fn put_cells(file: &mut Vec<u8>, cells: u16) -> Result<(), AllocFailed<u8>> {
+fn put_cells(file: &mut Vec<u8>, cells: u16) -> Result<(), AllocError> {
     for _ in 0..cells {
         put_u16(file, 0)?;
         put_u16(file, 9)?;
@@ -66,6 +62,7 @@ pub fn cells(heap: Global, cells: u16) -> Result<Vec<u8>, AllocError> {
 pub fn rules(heap: Global, cells: u16, kind: u8, numbers: &[u16]) -> Result<Vec<u8>, AllocError> {
     let mut file = Vec::new(heap);
     let size = cells.wrapping_mul(4);
+    // Kept: no list is longer than the size of a body can say, so the cast is of such a number.
     let most = numbers.len().min(30000) as u16;
     file.push(2)?;
     put_entry(&mut file, 1, 19, size)?;

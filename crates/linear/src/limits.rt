@@ -30,7 +30,7 @@ fn needed(floor: u64, others: u64, weight: u32) -> u64
     requires weight { 0 < weight }
     ensures { result ≡ over (floor - others) weight }
 {
-    // Kept: that the casts keep each number is proved, where a try_from would add an error that cannot be.
+    // Kept: a rule of the project: a dividend below zero is divided by a function of its own, over signed numbers.
     div_up(floor as i64 - others as i64, weight).max(0) as u64
 }
 
@@ -95,7 +95,7 @@ impl Open {
         let others_most = most - u64::from(weight) * u64::from(row.high);
         let fewest = needed(floor, others_most, weight);
         let most = (ceiling - others_least) / u64::from(weight);
-        // Kept: the same holds of these casts.
+        // Kept: that the casts keep each number is proved, where a try_from would add an error that cannot be.
         Row {
             low: u64::from(row.low).max(fewest) as u16,
             high: u64::from(row.high).min(most) as u16,

@@ -58,6 +58,7 @@ fn admit(top: &mut [u32], count: usize, high: u16)
     }
 }
 
+// Kept: one walk for four sums and the table, where a chain for each would go over the counts four times.
 fn add_up(counts: &[Row], top: &mut [u32]) -> Sums
     requires few { length counts.now ≤ 64 }
     requires whole { length top.old ≡ 65 }

@@ -24,6 +24,7 @@ pub enum Answer {
     Refused(Refusal),
 }
 
+// Kept: here and of a slip, a match of two arms; `map_or_else` of two closures has the refusal before what is granted.
 impl From<Result<(), Refusal>> for Answer {
     ghost from_gives = { λ r a. a ≡ of_grant r };
 
