@@ -37,21 +37,15 @@ impl<'f> Spot<'f> {
         u64_at(self.rest(), offset)
     }
 
+    // What stands from the place on: nothing past the end.
     fn rest(self) -> &'f [u8]
         ensures { result.now ≡ drop self.entry.place self.entry.bytes.now }
     {
-        rest(self.bytes, self.place)
+        self.bytes.get(self.place..).unwrap_or(&[])
     }
 }
 
-// What stands from a place on: nothing past the end.
-fn rest(file: &[u8], place: usize) -> &[u8]
-    ensures { result.now ≡ drop place file.now }
-{
-    file.get(place..).unwrap_or(&[])
-}
-
-// Kept: a caller with a place in bytes of its own, and no spot, reads by these four.
+// Kept: public promises of this crate, as the three for numbers below: they read bytes without a spot, and outside only vectors calls one, `u32_at`.
 pub fn byte_at(file: &[u8], place: usize) -> u8
     ensures { result ≡ slice_index file.now place }
 {
@@ -63,7 +57,7 @@ fn bytes_at<const N: usize>(file: &[u8], place: usize) -> [u8; N]
     ensures long { length result ≡ N }
     ensures each { (i : ℕ) → i < N → slice_index result i ≡ slice_index file.now (place + i) }
 {
-    let rest = rest(file, place);
+    let rest = Spot { bytes: file, place }.rest();
     match rest.first_chunk() {
         Some(whole) => *whole,
         None => array::from_fn(|i| byte_at(rest, i)),
