@@ -35,7 +35,7 @@ impl From<ByteFault> for Refused {
             },
             ByteFault::Record { kind, place } => Refused {
                 number: 5,
-                kind: kind as u8,
+                kind: kind.into(),
                 place,
             },
         }
@@ -50,12 +50,12 @@ impl From<RecordFault> for Refused {
             RecordFault::Bytes(fault) => fault.into(),
             RecordFault::Number { kind, place } => Refused {
                 number: 6,
-                kind: kind as u8,
+                kind: kind.into(),
                 place,
             },
             RecordFault::Twice { kind, place } => Refused {
                 number: 7,
-                kind: kind as u8,
+                kind: kind.into(),
                 place,
             },
         }

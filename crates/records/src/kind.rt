@@ -30,3 +30,11 @@ impl TryFrom<u8> for Kind {
         }
     }
 }
+
+impl From<Kind> for u8 {
+    ghost from_gives = { λ kind n. n ≡ kind_number kind };
+
+    fn from(kind: Kind) -> u8 {
+        kind as u8
+    }
+}
