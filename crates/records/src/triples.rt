@@ -1,7 +1,8 @@
 // Triples: union, intersection, union-plus of three cells, and subset of two.
-ghost use Rattle.std.specs.Prelude.{◌≡◌, ◌+◌, Some, None, MatchResult};
+ghost use Rattle.std.specs.Prelude.{◌≡◌, ◌+◌, Some, None, MatchResult, length};
 ghost use Rattle.records.specs.Bytes.{number};
-ghost use Rattle.records.specs.Forms.{triples_form};
+ghost use Rattle.records.specs.Records.{Triple};
+ghost use Rattle.records.specs.Forms.{triples_form, triple_names};
 ghost use Rattle.records.specs.Kinds.{triple_kind};
 
 use crate::body::BodyKind;
@@ -31,6 +32,18 @@ impl TryFrom<u16> for TripleKind {
             3 => Ok(TripleKind::UnionPlus),
             4 => Ok(TripleKind::Subset),
             _ => Err(Unknown),
+        }
+    }
+}
+
+impl TripleKind {
+    // How many cells a triple of the kind ties together.
+    pub fn arity(self) -> usize
+        ensures { (t : Triple) → triple_kind t.kind ≡ Some self → result ≡ length (triple_names t) }
+    {
+        match self {
+            TripleKind::Subset => 2,
+            _ => 3,
         }
     }
 }
@@ -82,10 +95,7 @@ impl BodyKind for Triples {
     }
 
     fn arity(at: Spot<'_>) -> usize {
-        match TripleKind::try_from(Self::read(at).kind) {
-            Ok(TripleKind::Subset) => 2,
-            _ => 3,
-        }
+        TripleKind::try_from(Self::read(at).kind).map_or(3, TripleKind::arity)
     }
 
     fn name(at: Spot<'_>, index: usize) -> u16 {

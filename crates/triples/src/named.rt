@@ -15,20 +15,12 @@ use rules::named::Named;
 impl Scope for Triple {
     ghost scope = { λ t. (rule_of t).scope };
 
-    // Kept: this and the next say of a kind that is known what the record says of a number.
     fn arity(&self) -> usize {
-        match self.kind {
-            TripleKind::Subset => 2,
-            _ => 3,
-        }
+        self.kind.arity()
     }
 
     fn cell(&self, i: usize) -> usize {
-        usize::from(match i {
-            0 => self.a,
-            1 => self.b,
-            _ => self.c,
-        })
+        usize::from([self.a, self.b, self.c][i])
     }
 }
 
