@@ -1,6 +1,7 @@
 // Totals: a floor and a ceiling for the weighted sum of 1 to 64 cells.
-ghost use Rattle.std.specs.Prelude.{◌+◌};
+ghost use Rattle.std.specs.Prelude.{◌≡◌, ◌+◌, map, slice_index};
 ghost use Rattle.records.specs.Bytes.{number};
+ghost use Rattle.records.specs.Records.{total_at};
 ghost use Rattle.records.specs.Forms.{totals_form};
 
 use crate::body::{BodyKind, MOST_LISTED};
@@ -50,7 +51,7 @@ impl BodyKind for Totals {
         (1..=MOST_LISTED).contains(&head.cells)
             && head.floor <= head.ceiling
             && head.ceiling <= MOST_CEILING
-            && weights_keep(at, head.cells)
+            && weights_keep(at)
     }
 
     #[tactic(auto, using(crate::proofs::Fields::length_cells))]
@@ -62,6 +63,20 @@ impl BodyKind for Totals {
     fn name(at: Spot<'_>, index: usize) -> u16 {
         if index < usize::from(at.u16(0)) {
             at.u16(Self::HEAD + 6 * index)
+        } else {
+            0
+        }
+    }
+}
+
+impl Totals {
+    // The weight of the cell at an index; 0 past the last, as its name.
+    #[tactic(auto, using(crate::proofs::Fields::length_weights, crate::proofs::Fields::length_cells, crate::proofs::Fields::get_or_weights, std::proofs::lemmas::List::get_or_past))]
+    pub fn weight(at: Spot<'_>, index: usize) -> u32
+        ensures { result ≡ slice_index (map (λ t. t.weight) (total_at at.entry.bytes.now at.entry.place).terms) index }
+    {
+        if index < usize::from(at.u16(0)) {
+            at.u32(Self::HEAD + 6 * index + 2)
         } else {
             0
         }

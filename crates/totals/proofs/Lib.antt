@@ -1,4 +1,3 @@
-pub mod Terms
 pub mod Outcomes
 pub mod Opened
 pub mod Scope

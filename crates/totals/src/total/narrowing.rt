@@ -12,13 +12,10 @@ use rule_families::change::Change;
 
 impl Total<'_> {
     // Kept: the weights lie in the file's bytes, so there is no slice of them to go over beside the rows.
-    #[tactic(auto, using(crate::proofs::Terms::weight_at, records::proofs::Fields::length_terms))]
     fn weight(&self, i: usize) -> u32
-        requires within { i < length (record_of self.now).terms }
-        requires few { i < 64 }
         ensures { result ≡ slice_index (weights self.now) i }
     {
-        self.spot.u32(Totals::HEAD + 6 * i + 2)
+        Totals::weight(self.spot, i)
     }
 
     pub(super) fn limits(&self, own: &[Row]) -> Limits
