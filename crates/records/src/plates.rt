@@ -52,13 +52,12 @@ impl BodyKind for Plates {
         2 + usize::from(at.u16(4))
     }
 
-    #[tactic(auto, using(crate::proofs::Fields::length_numbers, crate::proofs::Fields::get_or_numbers))]
+    #[tactic(auto, using(crate::proofs::Fields::length_numbers, crate::proofs::Fields::get_or_numbers, std::proofs::lemmas::List::get_or_past))]
     fn name(at: Spot<'_>, index: usize) -> u16 {
-        let head = Self::read(at);
         match index {
-            0 => head.slots,
-            1 => head.variety,
-            _ if index < Self::arity(at) => at.u16(Self::HEAD + 2 * (index - 2)),
+            0 => at.u16(0),
+            1 => at.u16(2),
+            _ if index - 2 < usize::from(at.u16(4)) => at.u16(Self::HEAD + 2 * (index - 2)),
             _ => 0,
         }
     }
