@@ -18,7 +18,8 @@ use rule_families::change::Change;
 use rules::named::Named;
 
 // The plate whose record stands at a spot of the file.
-// Kept: a total is such a struct too; one over the kind of body would take a bound and a marker to share two lines of `arity`.
+// Kept: a total is such a struct too; one for both would lie in rules, below plates and totals, which could give it no rule of their own.
+// Kept: public, so that any spot makes one; that its record keeps its limits is asked where it is read as a rule, not of callers.
 #[derive(Clone, Copy)]
 pub struct Plate<'f> {
     pub spot: Spot<'f>,
