@@ -39,6 +39,7 @@ fn fill(job: &Job<'_>, rows: &mut [Row])
 }
 
 // The bounds of a cell; past the last, those of no copy.
+// Kept: apart from the loop, whose proof does not see through the Option.
 #[tactic(auto, unfolding(crate::specs::Opening::job_rows))]
 fn row(job: &Job<'_>, number: u16) -> Row
     ensures { result ≡ slice_index_or (job_rows job.now) number none_row }

@@ -1,9 +1,7 @@
 -- Two rows or three as a list, and a row cut to a range.
-use Rattle.std.proofs.Common.{◌≡◌, ℕ, min, max, Bool, List, [], ◌∷◌, length, get_or, sym, refl, ap, ◌∙◌, arith}
+use Rattle.std.proofs.Common.{◌≡◌, ℕ, min, max, List, [], ◌∷◌, length, get_or, refl, arith}
 use Rattle.bounds.specs.declared.row.Row.{Row}
-use Rattle.bounds.specs.Boards.{Board, none_row}
-use Rattle.bounds.specs.Cells.{common}
-use Rattle.bounds.specs.Exact.{exact}
+use Rattle.bounds.specs.Boards.{none_row}
 
 abbrev pub two : {A : Type 0} → A → A → List A
 two x y = x ∷ (y ∷ [])
@@ -27,13 +25,6 @@ as_three (x ∷ (y ∷ (z ∷ (w ∷ a)))) e = absurd (omega arith)
 abbrev pub row_at : List Row → ℕ → Row
 row_at a i = get_or a i none_row
 
--- an answer that is the closed form of the rows one by one is their exact narrowing
-pub exact_array : (meets : List ℕ → Bool) {a g : List Row} {b d : Board} → a ≡ g → b ≡ d → exact meets g ≡ d → b ≡ exact meets a
-exact_array meets e answer closed = answer ∙ sym (ap (exact meets) e ∙ closed)
-
 -- the bounds of g are those of a, cut to l and h
 abbrev pub Cut : Row → Row → ℕ → ℕ → Type 0
 Cut g a l h = (g.low ≡ max a.low l) × (g.high ≡ min a.high h)
-
-pub cut_is : (g a : Row) (l h : ℕ) → g ≡ common a l h → Cut g a l h
-cut_is g a l h e = (ap (λ r. r.low) e, ap (λ r. r.high) e)

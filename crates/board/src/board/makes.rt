@@ -8,7 +8,6 @@ use crate::unfit::{Refused, Unfit, room_for};
 use bounds::row::{Row, all_sound};
 
 // Whether the first rows and the memory make a board of so many cells.
-// Kept: what it shares with the fit of a job is `room_for`; what is left is how each looks for a row with no count.
 fn fit(rows: &[Row], saved: &[Row], cells: usize) -> Result<(), Unfit>
     ensures { Tells (unfit cells (take cells rows.now) (length rows.now) (length saved.now)) result }
 {
