@@ -14,3 +14,10 @@ kind_number Totals = 4
 abbrev pub triple_kind : ℕ → Option TripleKind
 triple_kind n = cond (n == 1) (Some Union) (cond (n == 2) (Some Intersection)
     (cond (n == 3) (Some UnionPlus) (cond (n == 4) (Some Subset) None)))
+
+-- how many cells a triple of the kind ties together
+abbrev pub tied : TripleKind → ℕ
+tied Union = 3
+tied Intersection = 3
+tied UnionPlus = 3
+tied Subset = 2

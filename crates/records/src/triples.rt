@@ -1,9 +1,8 @@
 // Triples: union, intersection, union-plus of three cells, and subset of two.
-ghost use Rattle.std.specs.Prelude.{◌≡◌, ◌+◌, Some, None, MatchResult, length};
+ghost use Rattle.std.specs.Prelude.{◌≡◌, ◌+◌, Some, None, MatchResult};
 ghost use Rattle.records.specs.Bytes.{number};
-ghost use Rattle.records.specs.Records.{Triple};
-ghost use Rattle.records.specs.Forms.{triples_form, triple_names};
-ghost use Rattle.records.specs.Kinds.{triple_kind};
+ghost use Rattle.records.specs.Forms.{triples_form};
+ghost use Rattle.records.specs.Kinds.{triple_kind, tied};
 
 use crate::body::BodyKind;
 use crate::bytes::Spot;
@@ -39,7 +38,7 @@ impl TryFrom<u16> for TripleKind {
 impl TripleKind {
     // How many cells a triple of the kind ties together.
     pub fn arity(self) -> usize
-        ensures { (t : Triple) → triple_kind t.kind ≡ Some self → result ≡ length (triple_names t) }
+        ensures { result ≡ tied self }
     {
         match self {
             TripleKind::Subset => 2,
@@ -94,8 +93,12 @@ impl BodyKind for Triples {
         }
     }
 
+    #[tactic(auto, using(crate::proofs::Tied::names_tied, crate::proofs::Tied::names_three))]
     fn arity(at: Spot<'_>) -> usize {
-        TripleKind::try_from(Self::read(at).kind).map_or(3, TripleKind::arity)
+        match TripleKind::try_from(Self::read(at).kind) {
+            Ok(kind) => kind.arity(),
+            Err(Unknown) => 3,
+        }
     }
 
     fn name(at: Spot<'_>, index: usize) -> u16 {

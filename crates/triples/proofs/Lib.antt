@@ -1,2 +1,3 @@
+pub mod Tied
 pub mod Frames
 pub mod Closed

@@ -15,6 +15,7 @@ use rules::named::Named;
 impl Scope for Triple {
     ghost scope = { λ t. (rule_of t).scope };
 
+    #[tactic(auto, using(crate::proofs::Tied::scope_tied))]
     fn arity(&self) -> usize {
         self.kind.arity()
     }
