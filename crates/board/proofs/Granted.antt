@@ -1,6 +1,9 @@
 -- When a call on a board in memory is granted, and the state that it leaves.
 use Rattle.std.proofs.Common.{◌≡◌, ℕ, ◌<◌, ◌≤◌, cond, ltb, length, get_or, ◌≢◌, Ok, vec_items, ◌∙◌, arith}
+use lib.Seq.{take-set-lt}
 use Rattle.std.proofs.lemmas.List.{length-take-le}
+use Rattle.std.proofs.lemmas.Grind.{common_steps}
+use Rattle.bounds.proofs.Rows.{sound_set}
 use Rattle.std.proofs.lemmas.Bool.{cond-true, cond-false, lt-ltb, le-ltb}
 use Rattle.board.specs.declared.board.Board.{Board}
 use Rattle.board.specs.Calls.{is_open, older, at, refusal, opening, keep}
@@ -30,3 +33,6 @@ module _ (b : Board) where
   pub found : (k p : ℕ) → Places b.control k (Ok p)
       → let os = (state b).trials in Found b.control.cells b.control.trials (vec_items b.saved) p b.control.depth (is_open k os) (older k os) (at k os)
   found k p (below, is, newest) = some_found b.control.cells b.control.trials (vec_items b.saved) k p b.control.depth below is newest
+
+-- what a write of one row is proved by
+pub ruleset putting = (common_steps, rows_length, take-set-lt, sound_set)

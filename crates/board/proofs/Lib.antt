@@ -1,3 +1,5 @@
+pub mod Opening
+pub mod Closing
 pub mod Widest
 pub mod Slots
 pub mod Sounds

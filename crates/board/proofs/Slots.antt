@@ -1,6 +1,8 @@
 -- The trials of the trial memory.
-use Rattle.std.proofs.Common.{◌≡◌, ℕ, zero, suc, ◌+◌, ◌*◌, ◌<◌, ◌≤◌, Bool, true, false, ◌≢◌, List, ◌∷◌, length, get_or, take, drop, set, vec_items, vec_len, Vec, sym, refl, ap, ◌∙◌, subst, ⊎_elim, mul-le-mul_right, suc-mul, add-mul, one-mul, zero-add, add-one, arith}
+use Rattle.std.proofs.Common.{◌≡◌, ℕ, zero, suc, ◌+◌, ◌-◌, ◌*◌, ◌<◌, ◌≤◌, Bool, true, false, ◌≢◌, List, ◌∷◌, length, get_or, take, drop, set, vec_items, vec_len, Vec, sym, refl, ap, ◌∙◌, subst, ⊎_elim, mul-le-mul_right, suc-mul, add-mul, one-mul, zero-add, add-one, arith}
 use Rattle.std.specs.Vec.{with_items}
+use borrow.Rule.Slice.PartMut.{put_mid}
+use Rattle.std.proofs.lemmas.Slice.{take-put_mid_below, between-put_mid, drop-put_mid}
 use Rattle.std.specs.declared.alloc.Global.{Global}
 use Rattle.std.proofs.lemmas.List.{length-take-le, length-drop, take-take, drop-take, get_or-set_same, get_or-set_other, with_items_is}
 use Rattle.std.proofs.lemmas.Bool.{cases_lt, cond-true, cond-false, eq-eqb, ne_eqb}
@@ -91,3 +93,14 @@ module _ (n : ℕ) where
 pub pasted_into : (v : Vec Row Global) (p : ℕ) (from rows xs ws : List Row) → from ≡ rows → xs ≡ vec_items v → length ws ≡ vec_len v → Pasted p from xs ws
     → Pasted p rows (vec_items v) (vec_items (with_items v ws))
 pasted_into v p from rows xs ws e f l h = rw (with_items_is v ws l, ← e, ← f) h
+
+-- what a copy into a part of a list leaves
+pub pasted_at : (p n : ℕ) (rows xs ys : List Row) → p + n ≤ length xs → length rows ≡ n → ys ≡ rows → Pasted p rows xs (put_mid p (p + n - p) xs ys)
+pasted_at p n rows xs ys h l e =
+    let m : length ys ≡ n = ap length e ∙ l in
+    let k : n ≡ p + n - p = omega arith in
+    record {
+      before = take-put_mid_below p _ xs ys p (omega arith) (omega arith);
+      middle = ap (λ q. take q (drop p (put_mid p (p + n - p) xs ys))) (l ∙ k) ∙ between-put_mid p (p + n - p) xs ys (p + n) (omega arith) (omega arith) ∙ e;
+      after = ap (λ q. drop (p + q) (put_mid p (p + n - p) xs ys)) l ∙ drop-put_mid p _ xs ys (p + n) (omega arith) (omega arith) (omega arith) ∙ ap (λ q. drop (p + q) xs) (sym l);
+    }

@@ -19,6 +19,14 @@ impl Board {
         ensures widest { Widest (F.meaning family.now) (λ p. Lies p (board (state self.old))) (board (state self.new)) }
         ensures memory { OnlyRows self.old self.new }
     {
+        self.apply(family)
+    }
+
+    // That the board left is the widest follows from what was applied.
+    fn apply<F: Family>(&mut self, family: &F) -> Settled
+        ensures does { Does (F.meaning family.now) (state self.old) (event_of_settle result) (state self.new) }
+        ensures memory { OnlyRows self.old self.new }
+    {
         if self.control.void {
             return Settled::Void(0);
         }

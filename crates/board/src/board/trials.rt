@@ -1,5 +1,5 @@
 // What opens a trial and what closes it.
-ghost use Rattle.std.specs.Prelude.{◌≡◌, ◌+◌, ◌*◌, ◌≤◌, false, length, is_ok};
+ghost use Rattle.std.specs.Prelude.{◌≡◌, ◌+◌, ◌*◌, ◌≤◌, false, length, take, drop, is_ok};
 ghost use Rattle.board.specs.Held.{event_of_open, event_of_keep, event_of_drop, Did, Frame, OnlyRows, Outside, Pasted, Places, slot};
 
 use super::Board;
@@ -30,21 +30,25 @@ impl Slip {
     }
 }
 
-// Writes the rows over those of `to` at the place.
-fn paste(rows: &[Row], to: &mut [Row], place: usize)
-    requires { place + length rows.now ≤ length to.old }
-    ensures { Pasted place rows.now to.old to.new }
+// Writes the rows that the trial at the place saved over the front of the rows.
+// Kept: the trial memory is one piece that the caller lends, so a trial is a part of it by its number.
+fn restore(saved: &[Row], rows: &mut [Row], cells: usize, place: usize)
+    requires saved { place * cells + cells ≤ length saved.now }
+    requires room { cells ≤ length rows.old }
+    ensures front { take cells rows.new ≡ slot cells place saved.now }
+    ensures past { drop cells rows.new ≡ drop cells rows.old }
 {
-    to[place..place + rows.len()].copy_from_slice(rows);
+    rows[..cells].copy_from_slice(&saved[place * cells..][..cells]);
 }
 
-// The rows of the trial at the place, `cells` to a trial.
-// Kept: the trial memory is one piece that the caller lends, so a trial is a part of it by its number.
-fn saved_rows(saved: &[Row], cells: usize, place: usize) -> &[Row]
-    requires { place * cells + cells ≤ length saved.now }
-    ensures { result.now ≡ slot cells place saved.now }
+// Saves the first rows at the place, for a trial.
+fn save(rows: &[Row], saved: &mut [Row], cells: usize, place: usize)
+    requires room { place * cells + cells ≤ length saved.old }
+    requires rows { cells ≤ length rows.now }
+    ensures { Pasted (place * cells) (take cells rows.now) saved.old saved.new }
 {
-    &saved[place * cells..][..cells]
+    let start = place * cells;
+    saved[start..start + cells].copy_from_slice(&rows[..cells]);
 }
 
 impl Board {
@@ -59,6 +63,7 @@ impl Board {
             .ok_or(Refusal::Gone)
     }
 
+    #[tactic(auto, using(crate::proofs::Opening::opening))]
     pub fn open(&mut self) -> Result<Slip, Refusal>
         ensures does { Did self.old (event_of_open result) self.new }
         ensures frame { Frame self.old self.new }
@@ -72,7 +77,7 @@ impl Board {
         }
         let serial = self.control.given.checked_add(1).ok_or(Refusal::Serial)?;
         let cells = self.control.cells;
-        paste(&self.rows[..cells], &mut self.saved, depth * cells);
+        save(&self.rows, &mut self.saved, cells, depth);
         let void = self.control.void;
         let trial = &mut self.control.trials[depth];
         trial.serial = serial;
@@ -82,21 +87,24 @@ impl Board {
         Ok(Slip { serial })
     }
 
+    #[tactic(auto, using(crate::proofs::Closing::closing))]
     pub fn keep(&mut self, slip: Slip) -> Result<(), Refusal>
         ensures does { Did self.old (event_of_keep slip result) self.new }
         ensures memory { OnlyRows self.old self.new }
     {
-        self.control.depth = self.place(slip)?;
+        let left = self.place(slip)?;
+        self.control.depth = left;
         Ok(())
     }
 
+    #[tactic(auto, using(crate::proofs::Closing::closing))]
     pub fn drop(&mut self, slip: Slip) -> Result<(), Refusal>
         ensures does { Did self.old (event_of_drop slip result) self.new }
         ensures memory { OnlyRows self.old self.new }
     {
         let place = self.place(slip)?;
         let cells = self.control.cells;
-        paste(saved_rows(&self.saved, cells, place), &mut self.rows, 0);
+        restore(&self.saved, &mut self.rows, cells, place);
         self.control.void = self.control.trials[place].void;
         self.control.depth = place;
         Ok(())
