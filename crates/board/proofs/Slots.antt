@@ -1,10 +1,8 @@
 -- The trials of the trial memory.
-use Rattle.std.proofs.Common.{◌≡◌, ℕ, zero, suc, ◌+◌, ◌-◌, ◌*◌, ◌<◌, ◌≤◌, Bool, true, false, ◌≢◌, List, ◌∷◌, length, get_or, take, drop, set, vec_items, vec_len, Vec, sym, refl, ap, ◌∙◌, subst, ⊎_elim, mul-le-mul_right, suc-mul, add-mul, one-mul, zero-add, add-one, arith}
-use Rattle.std.specs.Vec.{with_items}
+use Rattle.std.proofs.Common.{◌≡◌, ℕ, zero, suc, ◌+◌, ◌-◌, ◌*◌, ◌<◌, ◌≤◌, Bool, true, false, ◌≢◌, List, ◌∷◌, length, get_or, take, drop, set, sym, refl, ap, ◌∙◌, ⊎_elim, mul-le-mul_right, suc-mul, add-mul, one-mul, add-one, arith}
 use borrow.Rule.Slice.PartMut.{put_mid}
 use Rattle.std.proofs.lemmas.Slice.{take-put_mid_below, between-put_mid, drop-put_mid}
-use Rattle.std.specs.declared.alloc.Global.{Global}
-use Rattle.std.proofs.lemmas.List.{length-take-le, length-drop, take-take, drop-take, get_or-set_same, get_or-set_other, with_items_is}
+use Rattle.std.proofs.lemmas.List.{take-take, drop-take, get_or-set_same, get_or-set_other}
 use Rattle.std.proofs.lemmas.Bool.{cases_lt, cond-true, cond-false, eq-eqb, ne_eqb}
 use Rattle.bounds.specs.declared.row.Row.{Row}
 use Rattle.board.specs.declared.control.Trial.{Trial}
@@ -20,16 +18,6 @@ module _ (n : ℕ) where
 
   pub room_for : (d m : ℕ) → d < m → d * n + n ≤ m * n
   room_for d m h = rw (← suc-mul d n) (mul-le-mul_right n h)
-
-  pub slot_length : (d m : ℕ) (a : List Row) → d < m → m * n ≤ length a → length (slot n d a) ≡ n
-  slot_length d m a h l = length-take-le n (drop (d * n) a) (rw (length-drop (d * n) a) (omega (arith, room_for d m h)))
-
-  -- what a paste of n rows at the start leaves
-  pub from_start : (rows xs ys : List Row) → length rows ≡ n → Pasted 0 rows xs ys → (take n ys ≡ rows) × (drop n ys ≡ drop n xs)
-  from_start rows xs ys l p = (
-    ap (λ m. take m ys) (sym l) ∙ p.middle,
-    subst (λ m. drop m ys ≡ drop m xs) (zero-add (length rows) ∙ l) p.after,
-  )
 
   pub next_place : (d : ℕ) (rows : List Row) → length rows ≡ n → d * n + length rows ≡ (d + 1) * n
   next_place d rows l = omega (arith, add-mul d 1 n, one-mul n)
@@ -88,11 +76,6 @@ module _ (n : ℕ) where
       let there : slot n d b ≡ rows = ap (λ m. take m (drop (d * n) b)) (sym l) ∙ p.middle in
       let rest = same_trials ts (set ts d t) a b d (λ i k. let ne : i ≢ d = omega arith in get_or-set_other ts d i t none_trial ne) p.before in
       rw add-one (cc)
-
--- what a paste into a slice of a Vec leaves in the Vec
-pub pasted_into : (v : Vec Row Global) (p : ℕ) (from rows xs ws : List Row) → from ≡ rows → xs ≡ vec_items v → length ws ≡ vec_len v → Pasted p from xs ws
-    → Pasted p rows (vec_items v) (vec_items (with_items v ws))
-pasted_into v p from rows xs ws e f l h = rw (with_items_is v ws l, ← e, ← f) h
 
 -- what a copy into a part of a list leaves
 pub pasted_at : (p n : ℕ) (rows xs ys : List Row) → p + n ≤ length xs → length rows ≡ n → ys ≡ rows → Pasted p rows xs (put_mid p (p + n - p) xs ys)
