@@ -173,9 +173,6 @@ gathers f n table count room none =
     all : left f n 0 ≡ entries f
     all = ap (λ (m : ℕ). entries_from m f 1) (omega (arith, count))
 
-pub refused_contents : (f : List ℕ) (r : Refused) → contents_fault f ≡ Some r → reading f ≡ refused r
-refused_contents f r e = ap (λ (o : Option Refused). unless o (bodies f nothing (entries f))) e
-
 pub read_bodies : (f : List ℕ) (x : Reading) → contents_fault f ≡ None → bodies f nothing (entries f) ≡ x → reading f ≡ x
 read_bodies f x e d = ap (λ (o : Option Refused). unless o (bodies f nothing (entries f))) e ∙ d
 

@@ -62,7 +62,7 @@ pub fn cells(heap: Global, cells: u16) -> Result<Vec<u8>, AllocError> {
 pub fn rules(heap: Global, cells: u16, kind: u8, numbers: &[u16]) -> Result<Vec<u8>, AllocError> {
     let mut file = Vec::new(heap);
     let size = cells.wrapping_mul(4);
-    // Kept: no list is longer than the size of a body can say, so the cast is of such a number.
+    // Kept: that the cast keeps the number shows from the `min`, where a try_from would add an error that cannot be.
     let most = numbers.len().min(30000) as u16;
     file.push(2)?;
     put_entry(&mut file, 1, 19, size)?;

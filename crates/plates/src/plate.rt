@@ -59,7 +59,7 @@ impl Scope for Plate<'_> {
         Plates::arity(self.spot)
     }
 
-    // Kept: by the record's `name`, tried here and in totals, the planner took 16 percent longer over 14 thousand search nodes: that reads the count too.
+    // Kept: only cells that there are are asked for; the record's `name` reads the count again for each, which took the planner 16 percent longer over 14 thousand search nodes.
     #[tactic(auto, using(records::proofs::Fields::length_numbers, records::proofs::Fields::get_or_numbers))]
     fn cell(&self, i: usize) -> usize {
         // the number of counts stands between the variety and the first count

@@ -70,7 +70,8 @@ impl BodyKind for Totals {
 }
 
 impl Totals {
-    // The weight of the cell at an index; 0 past the last, as its name.
+    // The weight of the cell at an index; 0 past the last.
+    // Kept: as `name` has it, since only cells up to the arity are asked for.
     #[tactic(auto, using(crate::proofs::Fields::length_weights, crate::proofs::Fields::length_cells, crate::proofs::Fields::get_or_weights, std::proofs::lemmas::List::get_or_past))]
     pub fn weight(at: Spot<'_>, index: usize) -> u32
         ensures { result ≡ slice_index (map (λ t. t.weight) (total_at at.entry.bytes.now at.entry.place).terms) index }

@@ -24,7 +24,7 @@ pub enum Answer {
     Refused(Refusal),
 }
 
-// Kept: here and of a slip, a match of two arms; `map_or_else` of two closures has the refusal before what is granted.
+// Kept: here and of a slip, a match of two arms; `map_or_else` has the refusal first, and `map` with `unwrap_or_else` is two calls that say no more.
 impl From<Result<(), Refusal>> for Answer {
     ghost from_gives = { λ r a. a ≡ of_grant r };
 

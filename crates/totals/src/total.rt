@@ -2,6 +2,7 @@
 use records::bytes::Spot;
 
 // The total whose record stands at a spot of the file.
+// Kept: public, as a plate is, so that any spot makes one; that its record keeps its limits is asked where it is read as a rule, not of callers.
 #[derive(Clone, Copy)]
 pub struct Total<'f> {
     pub spot: Spot<'f>,

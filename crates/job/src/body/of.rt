@@ -10,7 +10,7 @@ use records::kind::Kind;
 
 impl<'f> Body<'f> {
     // A body of a kind that is none is read as one of totals; lawful contents have no such entry.
-    // Kept: so has the definition of a reading, and no type of an entry says that its kind is one.
+    // Kept: so does the definition of a reading, and no type of an entry says that its kind is one.
     pub fn of(file: File<'f>, entry: Entry) -> Body<'f>
         requires { entry.offset + entry.size ≤ length file.bytes.now }
         ensures kind { body_form result ≡ form_of entry.kind }

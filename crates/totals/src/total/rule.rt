@@ -22,7 +22,7 @@ impl Scope for Total<'_> {
         Totals::arity(self.spot)
     }
 
-    // Kept: by the record's `name`, tried here and in plates, the planner took 16 percent longer over 14 thousand search nodes: that reads the count too.
+    // Kept: only cells that there are are asked for; the record's `name` reads the count again for each, which took the planner 16 percent longer over 14 thousand search nodes.
     #[tactic(auto, using(crate::proofs::Scope::named_cell))]
     fn cell(&self, i: usize) -> usize {
         usize::from(self.spot.u16(Totals::HEAD + 6 * i))
