@@ -5,3 +5,4 @@ pub mod Slots
 pub mod Sounds
 pub mod Granted
 pub mod Settling
+pub mod Stated

@@ -7,7 +7,7 @@ use Rattle.bounds.specs.declared.row.Row.{Row}
 use Rattle.bounds.specs.Boards.{sound}
 use Rattle.board.specs.Held.{Pasted}
 
-sound_split : (n : ℕ) (a : List Row) → sound a ≡ true → (sound (take n a) ≡ true) × (sound (drop n a) ≡ true)
+pub sound_split : (n : ℕ) (a : List Row) → sound a ≡ true → (sound (take n a) ≡ true) × (sound (drop n a) ≡ true)
 sound_split n a s = and_parts _ _ (sym (list_all-append (λ (r : Row). leb r.low r.high) (take n a) (drop n a)) ∙ ap sound (take-append-drop n a) ∙ s)
 
 pub sound_fewer : (m n : ℕ) (a : List Row) → m ≤ n → sound (take n a) ≡ true → sound (take m a) ≡ true

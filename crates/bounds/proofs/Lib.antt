@@ -8,3 +8,4 @@ pub mod ExactLaws
 pub mod Scopes
 pub mod Lifted
 pub mod Beside
+pub mod Stated

@@ -42,6 +42,10 @@ module _ (s t u v : State) (slip : Slip) (o : Does none s (opened slip.serial) t
         ap (λ (x : State). x.trials) d.1 ∙ ap (older slip.serial) newest ∙ cond-true _ _ _ hit,
       )
 
+-- as found, and then as found again
+onward : (b c d : Held) → LeftAsFound b c → LeftAsFound c d → LeftAsFound b d
+onward b c d x y = record { same_board = y.same_board ∙ x.same_board; same_trials = y.same_trials ∙ x.same_trials }
+
 pub stayed : (b c : Held) → state c ≡ state b → LeftAsFound b c
 stayed b c e = record { same_board = ap board e; same_trials = ap (λ (x : State). x.trials) e }
 

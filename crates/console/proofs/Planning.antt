@@ -29,7 +29,7 @@ abbrev pub meant : JobFamilies → Meaning
 meant r = beside (plates r.first.0.file.now r.first.0.places.now)
     (beside (triples r.second.first.0.file.now r.second.first.0.places.now) (totals r.second.second.0.file.now r.second.second.0.places.now))
 
-module _ (f : List ℕ) (j : Job) (on : job_file j ≡ f) (read : reading f ≡ granted (job_found j)) (room : Room) where
+module _ (f : List ℕ) (j : Job) (on : job_file j ≡ f) (read : reading f ≡ granted (job_found j)) where
   rows_are : job_rows j ≡ map (row_at f) (job_found j).cells
   unfolding job_rows
   rows_are = ap (λ (x : List ℕ). map (row_at x) (job_found j).cells) on
@@ -38,14 +38,15 @@ module _ (f : List ℕ) (j : Job) (on : job_file j ≡ f) (read : reading f ≡ 
   cells_are : length (job_rows j) ≡ length (job_found j).cells
   cells_are = ap length rows_are ∙ length-map (job_found j).cells (row_at f)
 
-  pub lacking : (e : board.Refused) → HasRoom (job_rows j) room.rows room.saved (Err e) → Roomless f room
-  lacking e lacks = (job_found j, read, elim lacks [ inl h ↦ inl (omega (arith, h, cells_are)) | inr h ↦ inr (omega (arith, h, cells_are)) ])
+  pub lacking : (room : Room) (e : board.Refused) → HasRoom (job_rows j) room.rows room.saved (Err e) → Roomless f room
+  lacking room e lacks = (job_found j, read, elim lacks [ inl h ↦ inl (omega (arith, h, cells_are)) | inr h ↦ inr (omega (arith, h, cells_are)) ])
 
   module _ (rules : JobFamilies) (are : JobRules (job_file j) (job_found j) rules) where
     means : meant rules ≡ job_meaning f (job_found j)
     means = λ i. beside (plates ((are.plates.file ∙ on) i) (are.plates.at i))
         (beside (triples ((are.triples.file ∙ on) i) (are.triples.at i)) (totals ((are.totals.file ∙ on) i) (are.totals.at i)))
 
+  module _ (room : Room) (rules : JobFamilies) (are : JobRules (job_file j) (job_found j) rules) where
     pub planned : (b c : Board) → HasRoom (job_rows j) room.rows room.saved (Ok b) → state b ≡ as_read (job_rows j) → (p q : List ℕ) (s t : List Row) (r : Report)
         → p ≡ vec_items room.plan → s ≡ vec_items room.scratch → Ran (meant rules) b c p q s t (Settle ∷ Seek ∷ []) (vec_items r.answers) → Left (state c) r.bounds
         → Planned f (job_found j) room r
@@ -57,7 +58,7 @@ module _ (f : List ℕ) (j : Job) (on : job_file j ≡ f) (read : reading f ≡ 
       left = state c;
       logs = subst (λ (n : ℕ). Logs n (length (vec_items room.scratch)) (Settle ∷ Seek ∷ []) (vec_items r.answers) ran.events) (ap length plan)
           (subst (λ (n : ℕ). Logs (length p) n (Settle ∷ Seek ∷ []) (vec_items r.answers) ran.events) (ap length scratch) ran.logs);
-      leads = subst (λ (m : Meaning). Leads m (as_read (map (row_at f) (job_found j).cells)) ran.events (state c)) means
+      leads = subst (λ (m : Meaning). Leads m (as_read (map (row_at f) (job_found j).cells)) ran.events (state c)) (means rules are)
           (subst (λ (x : State). Leads (meant rules) x ran.events (state c)) (start ∙ ap as_read rows_are) ran.leads);
       bounds_are = left;
     }

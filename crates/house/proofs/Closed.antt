@@ -24,7 +24,7 @@ module _ (most : ℕ) (a b g h : Row) (left : Cut g a (b.low - most) (b.high + m
   meeting x y i j l = ((omega arith, omega arith, (omega arith, omega arith, tt)), le-leb (max x y - min x y) most l)
 
   -- the count of b that is nearest to one of g, and of a to one of h
-  reached : sound (two g h) ≡ true → Reached (alike most) (two a b) (two g h)
+  pub reached : sound (two g h) ≡ true → Reached (alike most) (two a b) (two g h)
   reached s zero l x i = let t = sound_at (two g h) s 1 (omega arith) in let y = max b.low (min x b.high) in (two x y, meeting x y (omega arith) (omega arith) (omega arith), refl)
   reached s (suc zero) l y i = let t = sound_at (two g h) s 0 (omega arith) in let x = max a.low (min y a.high) in (two x y, meeting x y (omega arith) (omega arith) (omega arith), refl)
   reached s (suc (suc c)) l n i = absurd (omega arith)

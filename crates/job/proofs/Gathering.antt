@@ -9,7 +9,8 @@ use Rattle.job.specs.Contents.{entry_at, entries, entries_from, misordered, misp
 use Rattle.job.specs.Reading.{Found, Reading, refused, granted, unless, body, form_of, body_records, record_faults, found, nothing, bodies, reading}
 use Rattle.job.specs.Tallies.{spaced, held, tallied, no_tally}
 use Rattle.job.specs.Walked.{Walked}
-use Rattle.job.proofs.Listings.{never, left, left_more, between_in, between_out, kind_on, kind_off, place_on, place_off}
+use Rattle.records.proofs.Limits.{between_in, between_out}
+use Rattle.job.proofs.Listings.{never, left, left_more, kind_on, kind_off, place_on, place_off}
 use Rattle.job.proofs.Gathered.{Fresh, Written, fresh_on, held_on, rules_held, length_spaced, cells_spaced}
 
 -- an entry of lawful contents, and what is left after it

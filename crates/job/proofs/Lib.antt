@@ -10,3 +10,4 @@ pub mod Strings
 pub mod Telling
 pub mod Walks
 pub mod Whole
+pub mod Stated

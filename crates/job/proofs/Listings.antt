@@ -1,6 +1,6 @@
 -- The scans of the entries: what is left of them decides.
-use Rattle.std.proofs.Common.{◌≡◌, ℕ, zero, suc, ◌+◌, ◌-◌, ◌*◌, ◌<◌, ◌≤◌, leb, Bool, true, false, cond, ◌&&◌, eqb, ◌⊎◌, List, ◌∷◌, Some, None, Option, sym, refl, ap, ◌∙◌, inl, inr, arith}
-use Rattle.std.proofs.lemmas.Bool.{eq-eqb, ne_eqb, le-leb, lt-leb, and_from, and_left, and_right}
+use Rattle.std.proofs.Common.{◌≡◌, ℕ, zero, suc, ◌+◌, ◌-◌, ◌*◌, ◌<◌, ◌≤◌, Bool, true, false, cond, ◌&&◌, eqb, ◌⊎◌, List, ◌∷◌, Some, None, Option, sym, refl, ap, ◌∙◌, inl, inr, arith}
+use Rattle.std.proofs.lemmas.Bool.{eq-eqb, ne_eqb, le-leb, lt-leb, and_left, and_right, and_from}
 use Rattle.records.specs.Forms.{between}
 use Rattle.records.specs.Refusals.{line}
 use Rattle.records.specs.declared.refused.Refused.{Refused}
@@ -19,13 +19,6 @@ left_more f n i h = at (n - (i + 1)) (omega arith)
   where
     at : (m : ℕ) → n - i ≡ suc m → left f n i ≡ entry_at f (1 + 9 * i) ∷ entries_from m f (1 + 9 * (i + 1))
     at m e = ap (λ (k : ℕ). entries_from k f (1 + 9 * i)) e ∙ ap (λ (p : ℕ). entry_at f (1 + 9 * i) ∷ entries_from m f p) (omega arith)
-
-pub between_in : (low high n : ℕ) → low ≤ n → n ≤ high → between low high n ≡ true
-between_in low high n h g = and_from (leb low n) (leb n high) (le-leb low n h) (le-leb n high g)
-
-pub between_out : (low high n : ℕ) → (n < low) ⊎ (high < n) → between low high n ≡ false
-between_out low high n (inl h) = and_left (leb low n) (leb n high) (lt-leb low n h)
-between_out low high n (inr h) = and_right (leb low n) (leb n high) (lt-leb n high h)
 
 misordered_more : (f : List ℕ) (n i low high : ℕ) (e : Entry) (all : Option Refused) → i < n → e ≡ entry_at f (1 + 9 * i)
     → misordered low high (1 + 9 * i) (left f n i) ≡ all

@@ -4,3 +4,4 @@ pub mod LinearLaws
 pub mod TotalLaws
 pub mod Rounding
 pub mod LinearExact
+pub mod Stated

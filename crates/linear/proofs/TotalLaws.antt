@@ -30,16 +30,18 @@ pub as_many : (ts : List Term) → length (weights_of ts) ≡ length (term_cells
 as_many [] = refl
 as_many (t ∷ ts) = ap suc (as_many ts)
 
--- what a record that keeps its limits says of its cells
+-- what a record that keeps its limits says
 pub record Lawful (t : Total) : Type 0 where
   pub some : 1 ≤ length t.terms
   pub few : length t.terms ≤ 64
   pub weights : weighted t.terms ≡ true
+  pub ordered : t.floor ≤ t.ceiling
+  pub bounded : t.ceiling ≤ 10000000000000
 
 pub lawful_says : (t : Total) → total_limits t ≡ true → Lawful t
 lawful_says t e =
-    let a = and_parts _ _ e in let b = and_parts _ _ a.0 in let c = and_parts _ _ (and_parts _ _ a.1).1 in
-    record { some = leb-true 1 _ b.0; few = leb-true _ 64 b.1; weights = c.1 }
+    let a = and_parts _ _ e in let b = and_parts _ _ a.0 in let c = and_parts _ _ a.1 in let d = and_parts _ _ c.1 in
+    record { some = leb-true 1 _ b.0; few = leb-true _ 64 b.1; weights = d.1; ordered = leb-true _ _ c.0; bounded = leb-true _ 10000000000000 d.0 }
 
 pub total_laws : (t : Total) → ScopedLaws (total_scoped t)
 total_laws t = cond_both (total_limits t) (linear (term_cells t.terms) (weights_of t.terms) t.floor t.ceiling) unnamed ScopedLaws

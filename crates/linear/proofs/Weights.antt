@@ -67,7 +67,7 @@ bounded_at l [] (r ∷ a) i h e = absurd (omega arith)
 bounded_at l (w ∷ ws) (r ∷ a) zero h e = refl
 bounded_at l (w ∷ ws) (r ∷ a) (suc i) h e = bounded_at l ws a i (omega arith) (omega arith)
 
-same_limits : (l m : Limits) → l.floor ≡ m.floor → l.ceiling ≡ m.ceiling → l.least ≡ m.least → l.most ≡ m.most → l ≡ m
+pub same_limits : (l m : Limits) → l.floor ≡ m.floor → l.ceiling ≡ m.ceiling → l.least ≡ m.least → l.most ≡ m.most → l ≡ m
 same_limits l m a b c d = λ i. record { floor = a i; ceiling = b i; least = c i; most = d i }
 
 module _ (ws : List ℕ) (floor ceiling : ℕ) where

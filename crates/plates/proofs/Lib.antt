@@ -8,3 +8,4 @@ pub mod Adding
 pub mod Frames
 pub mod Writes
 pub mod Whole
+pub mod Stated

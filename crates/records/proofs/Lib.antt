@@ -1,3 +1,4 @@
 pub mod Numbers
 pub mod Fields
 pub mod Tied
+pub mod Limits

@@ -2,3 +2,4 @@ pub mod Compared
 pub mod Few
 pub mod Rows
 pub mod Reached
+pub mod Answered

@@ -13,7 +13,7 @@ use Rattle.settling.specs.declared.settled.Settled.{Settled}
 use Rattle.settling.specs.declared.settled.Settled.TheVariants as settle
 use Rattle.board.specs.Calls as calls
 use Rattle.board.specs.Calls.{Event, Does, opened, found, none_found}
-use Rattle.board.specs.Held.{state, Did, Frame, Outside, event_of_tighten, event_of_open, event_of_keep, event_of_drop, event_of_ask, event_of_settle}
+use Rattle.board.specs.Held.{state, Frame, Outside, event_of_tighten, event_of_open, event_of_keep, event_of_drop, event_of_ask, event_of_settle}
 use Rattle.board.proofs.Slots.{length_trials}
 use Rattle.search.specs.Seeks.{event_of_seek, Memory}
 use Rattle.run.specs.declared.call.Call.{Call}
@@ -69,24 +69,24 @@ module _ (m : Meaning) (laws : FiveLaws m) (b c : Board) (p : List ℕ) (scratch
   is_call y e = ap (call_of (length p) (length scratch)) (sym e)
 
   pub made_tighten : (i l h : ℕ) (r : Result (Unit {0}) Refusal) → x ≡ call.Tighten i l h → a ≡ of_grant r
-      → Did b (event_of_tighten i l h r) c → Frame b c → vec_items c.saved ≡ vec_items b.saved → Made m b c p p scratch scratch x a
-  made_tighten i l h (Ok u) ex ea d f s = made p scratch (event_of_tighten i l h (Ok u)) (is_call _ ex) ea (d m) (stays_saved b c f s) refl (λ _. refl)
-  made_tighten i l h (Err e) ex ea d f s = made p scratch (event_of_tighten i l h (Err e)) (is_call _ ex) (e, refl, ea) (d m) (stays_saved b c f s) refl (λ _. refl)
+      → Does m (state b) (event_of_tighten i l h r) (state c) → Stays b c → Made m b c p p scratch scratch x a
+  made_tighten i l h (Ok u) ex ea d s = made p scratch (event_of_tighten i l h (Ok u)) (is_call _ ex) ea d s refl (λ _. refl)
+  made_tighten i l h (Err e) ex ea d s = made p scratch (event_of_tighten i l h (Err e)) (is_call _ ex) (e, refl, ea) d s refl (λ _. refl)
 
   pub made_open : (r : Result Slip Refusal) → x ≡ call.Open → a ≡ of_open r
-      → Did b (event_of_open r) c → Frame b c → Outside b c b.control.depth → (is_ok r ≡ false → vec_items c.saved ≡ vec_items b.saved) → Made m b c p p scratch scratch x a
-  made_open (Ok u) ex ea d f o s = made p scratch (event_of_open (Ok u)) (is_call _ ex) ea (d m) (stays_opened b c f m (Ok u) (d m) o s) refl (λ _. refl)
-  made_open (Err e) ex ea d f o s = made p scratch (event_of_open (Err e)) (is_call _ ex) (e, refl, ea) (d m) (stays_opened b c f m (Err e) (d m) o s) refl (λ _. refl)
+      → Does m (state b) (event_of_open r) (state c) → Stays b c → Made m b c p p scratch scratch x a
+  made_open (Ok u) ex ea d s = made p scratch (event_of_open (Ok u)) (is_call _ ex) ea d s refl (λ _. refl)
+  made_open (Err e) ex ea d s = made p scratch (event_of_open (Err e)) (is_call _ ex) (e, refl, ea) d s refl (λ _. refl)
 
   pub made_keep : (k : ℕ) (slip : Slip) (r : Result (Unit {0}) Refusal) → x ≡ call.Keep k → slip.serial ≡ k → a ≡ of_grant r
-      → Did b (event_of_keep slip r) c → Frame b c → vec_items c.saved ≡ vec_items b.saved → Made m b c p p scratch scratch x a
-  made_keep k slip (Ok u) ex is ea d f s = made p scratch (event_of_keep slip (Ok u)) (ap calls.keep is ∙ is_call _ ex) ea (d m) (stays_saved b c f s) refl (λ _. refl)
-  made_keep k slip (Err e) ex is ea d f s = made p scratch (event_of_keep slip (Err e)) (ap calls.keep is ∙ is_call _ ex) (e, refl, ea) (d m) (stays_saved b c f s) refl (λ _. refl)
+      → Does m (state b) (event_of_keep slip r) (state c) → Stays b c → Made m b c p p scratch scratch x a
+  made_keep k slip (Ok u) ex is ea d s = made p scratch (event_of_keep slip (Ok u)) (ap calls.keep is ∙ is_call _ ex) ea d s refl (λ _. refl)
+  made_keep k slip (Err e) ex is ea d s = made p scratch (event_of_keep slip (Err e)) (ap calls.keep is ∙ is_call _ ex) (e, refl, ea) d s refl (λ _. refl)
 
   pub made_drop : (k : ℕ) (slip : Slip) (r : Result (Unit {0}) Refusal) → x ≡ call.Drop k → slip.serial ≡ k → a ≡ of_grant r
-      → Did b (event_of_drop slip r) c → Frame b c → vec_items c.saved ≡ vec_items b.saved → Made m b c p p scratch scratch x a
-  made_drop k slip (Ok u) ex is ea d f s = made p scratch (event_of_drop slip (Ok u)) (ap calls.drop is ∙ is_call _ ex) ea (d m) (stays_saved b c f s) refl (λ _. refl)
-  made_drop k slip (Err e) ex is ea d f s = made p scratch (event_of_drop slip (Err e)) (ap calls.drop is ∙ is_call _ ex) (e, refl, ea) (d m) (stays_saved b c f s) refl (λ _. refl)
+      → Does m (state b) (event_of_drop slip r) (state c) → Stays b c → Made m b c p p scratch scratch x a
+  made_drop k slip (Ok u) ex is ea d s = made p scratch (event_of_drop slip (Ok u)) (ap calls.drop is ∙ is_call _ ex) ea d s refl (λ _. refl)
+  made_drop k slip (Err e) ex is ea d s = made p scratch (event_of_drop slip (Err e)) (ap calls.drop is ∙ is_call _ ex) (e, refl, ea) d s refl (λ _. refl)
 
   pub made_ask : (i : ℕ) (r : Result Cell Refusal) → x ≡ call.Ask i → a ≡ of_ask i r
       → Does m (state b) (event_of_ask i r) (state c) → Stays b c → Made m b c p p scratch scratch x a

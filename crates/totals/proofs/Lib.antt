@@ -2,3 +2,4 @@ pub mod Outcomes
 pub mod Opened
 pub mod Scope
 pub mod Exactness
+pub mod Stated

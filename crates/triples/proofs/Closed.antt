@@ -54,7 +54,7 @@ parts : (a b : Row) (z : ℕ) → a.low ≤ a.high → b.low ≤ b.high → a.lo
 parts a b z s t l h = let x = max a.low (z - b.high) in (x, z - x, omega arith, omega arith, omega arith)
 
 module _ (a b c g h k : Row) where
-  union_narrowed : (x y : ℕ) → UnionRows a b c g h k x y → Narrowed max a b c g h k
+  pub union_narrowed : (x y : ℕ) → UnionRows a b c g h k x y → Narrowed max a b c g h k
   union_narrowed x y u = record {
     holds = λ m n l. omega arith;
     first = λ s m i. elim u.first_low [ inl e ↦ (b.low, omega arith) | inr e ↦ (k.low, omega arith) ];
@@ -63,7 +63,7 @@ module _ (a b c g h k : Row) where
         [ inl e ↦ (a.low, z, omega arith, omega arith) | inr e ↦ (z, b.low, omega arith, omega arith) ];
   }
 
-  intersection_narrowed : (x y : ℕ) → IntersectionRows a b c g h k x y → Narrowed min a b c g h k
+  pub intersection_narrowed : (x y : ℕ) → IntersectionRows a b c g h k x y → Narrowed min a b c g h k
   intersection_narrowed x y u = record {
     holds = λ m n l. omega arith;
     first = λ s m i. elim u.first_high [ inl e ↦ (b.high, omega arith) | inr e ↦ (k.high, omega arith) ];
@@ -72,7 +72,7 @@ module _ (a b c g h k : Row) where
         [ inl e ↦ (a.high, z, omega arith, omega arith) | inr e ↦ (z, b.high, omega arith, omega arith) ];
   }
 
-  plus_narrowed : (top : ℕ) → PlusRows a b c g h k top → Narrowed ◌+◌ a b c g h k
+  pub plus_narrowed : (top : ℕ) → PlusRows a b c g h k top → Narrowed ◌+◌ a b c g h k
   plus_narrowed top u =
       let wide : Sound ◌+◌ a b c g h k → Sound ◌+◌ a b c a b c = λ s.
       (cut_sound g a _ _ u.first s.0, cut_sound h b _ _ u.second s.1, cut_sound k c _ _ u.whole s.2) in

@@ -1,3 +1,4 @@
 pub mod Tied
 pub mod Frames
 pub mod Closed
+pub mod Stated
