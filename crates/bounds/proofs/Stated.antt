@@ -1,14 +1,15 @@
 -- Stated of what this crate defines, and used by none of its proofs: what is left of a scan of cells that a record
 -- names decides, and what a hull and a family from a file are.
-use Rattle.std.proofs.Common.{◌≡◌, ℕ, ◌+◌, ◌<◌, ◌≤◌, Bool, true, false, cond, not, ◌&&◌, ◌↔◌, eqb, ltb, List, length, get_or, drop, sym, ap, ◌∙◌}
+use Rattle.std.proofs.Common.{◌≡◌, ℕ, suc, ◌+◌, ◌-◌, ◌<◌, ◌≤◌, Bool, true, false, cond, not, ◌&&◌, ◌↔◌, eqb, ltb, List, length, get_or, take, drop, sym, ap, ◌∙◌, arith}
 use mathlib.Core.List.{Memᴰ}
 use Rattle.std.proofs.lemmas.List.{at_drop_more, at_drop_all}
+use Rattle.std.proofs.lemmas.List.Sums.{sum_by_more}
 use Rattle.std.proofs.lemmas.Bool.{lt-ltb, le-ltb, eq-eqb, ne_eqb}
 use Rattle.bounds.specs.declared.row.Row.{Row}
-use Rattle.bounds.specs.Boards.{cells, sound, Fills}
+use Rattle.bounds.specs.Boards.{cells, sound, spread, Fills, none_row}
 use Rattle.bounds.specs.Exact.{fillings}
 use Rattle.bounds.specs.Laws.{FiveLaws}
-use Rattle.bounds.specs.Scoped.{Scoped, ScopedLaws, fits, names, distinct}
+use Rattle.bounds.specs.Scoped.{Scoped, ScopedLaws, fits, names, distinct, scatter}
 use Rattle.bounds.specs.Listed.{listed}
 use Rattle.bounds.proofs.Members.{in_fillings, fillings_has}
 use Rattle.bounds.proofs.Hulls.{Tight, Meeting, hull_real}
@@ -62,3 +63,10 @@ tight_sound meets a g t = hull_real (Meeting meets a) (cells g) t
 listed_lawful : (at : List ℕ → ℕ → Scoped) → ((f : List ℕ) (i : ℕ) → ScopedLaws (at f i)) → (file places : List ℕ) → FiveLaws (listed at file places)
 listed_lawful at laws file places =
     numbered_lawful (length places) (λ r. at file (get_or places r 0)) (λ r. laws file (get_or places r 0))
+
+spread_take : (a : List Row) (i : ℕ) → i < length a
+    → spread (take (suc i) a) ≡ spread (take i a) + ((get_or a i none_row).high - (get_or a i none_row).low)
+spread_take a i k = let e : suc i ≡ i + 1 = omega arith in rw e (omega (arith, sum_by_more (λ (r : Row). r.high - r.low) a i none_row k))
+
+scatter_all : {A : Type 0} (cs : List ℕ) (g xs : List A) (i : ℕ) → length cs ≤ i → scatter (drop i cs) g xs ≡ xs
+scatter_all cs g xs i l = at_drop_all (λ x. scatter x g xs) cs i l

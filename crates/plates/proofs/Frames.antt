@@ -1,10 +1,10 @@
 -- The search for the fewest, and what the frame holds.
-use Rattle.std.proofs.Common.{◌≡◌, ℕ, zero, suc, ◌+◌, ◌-◌, ◌<◌, ◌≤◌, min, true, false, ◌&&◌, leb, List, sym, ap, ◌∙◌, inl, inr, arith}
-use Rattle.std.proofs.lemmas.Bool.{lt-ltb, le-ltb, le-leb, lt-leb, cond-true, cond-false, and_from, and_left, and_right, cases_lt}
+use Rattle.std.proofs.Common.{◌≡◌, ℕ, zero, suc, ◌+◌, ◌-◌, ◌<◌, ◌≤◌, min, true, false, ◌&&◌, leb, List, length, Some, Option, refl, sym, ap, ◌∙◌, inl, inr, arith}
+use Rattle.std.proofs.lemmas.Bool.{lt-ltb, le-ltb, le-leb, lt-leb, leb-true, cond-true, cond-false, cond_both, and_from, and_left, and_right, and_parts, cases_lt}
 use Rattle.bounds.specs.declared.row.Row.{Row}
 use Rattle.plates.specs.declared.frame.Sums.{Sums}
 use Rattle.plates.specs.Form.{Frame, certain, low_sum, base, reach, seek, most, fewest, feasible, frame_of}
-use Rattle.plates.specs.Work.{Summed, Topped, Small, sum_at}
+use Rattle.plates.specs.Work.{Summed, Topped, Small, Spanned, sum_at, room_for}
 use Rattle.plates.proofs.Tops.{top_mono, top_full}
 
 module _ (f : ℕ → ℕ) (need : ℕ) where
@@ -38,6 +38,17 @@ frame_made sm floor ceiling r m under at over = record {
   at = at;
   over = over;
 }
+
+-- what there being room for k optional counts says
+pub record Room (m : Sums) (s v : Row) (k : ℕ) : Type 0 where
+  pub kinds : m.certain ≤ v.high
+  pub copies : m.lows ≤ s.high
+  pub is : k ≡ min m.optional (min (v.high - m.certain) (s.high - m.lows))
+
+pub room_is : (m : Sums) (s v : Row) (k : ℕ) → room_for m s v ≡ Some k → Room m s v k
+room_is m s v k = cond_both (leb m.certain v.high && leb m.lows s.high) _ _ (λ (o : Option ℕ). o ≡ Some k → Room m s v k)
+    (λ t e. let p = and_parts _ _ t in record { kinds = leb-true _ _ p.0; copies = leb-true _ _ p.1; is = cc })
+    (λ _ e. let z : ◌≡◌ {A = ℕ} 0 1 = cc in absurd (omega arith))
 
 module _ (s v : Row) (cs : List Row) where
   pub none_short : most s v cs < fewest s v cs → feasible s v cs ≡ false
@@ -105,3 +116,14 @@ module _ (s v : Row) (cs : List Row) where
                 (and_from _ _ (le-leb (fewest s v cs) (most s v cs) (omega arith)) (le-leb s.low (reach cs (fewest s v cs)) low_r)),
             λ i. record { floor = f i; ceiling = g i; certain = a.certains i; optional = o i; lows = n i; fewest = y i; most = x i; under = e_under i; at = e_at i; over = e_over i },
           )
+
+    pub spanned : (m r : ℕ) → length t ≡ 65 → m ≡ most s v cs → r ≤ m → low_sum cs ≤ s.high → s.low ≤ sum_at t sm.base r
+        → s.low < 65536 → s.high < 65536 → v.high < 65536 → Spanned s sm t r m
+    spanned m r e x l q h y z k = let o = a.optionals in record {
+      whole = e;
+      order = l;
+      exist = omega arith;
+      few = omega (arith, a.few);
+      light = λ j i. omega (arith, b.limit j i);
+      small = small s.low s.high m r (min sm.optional (m + 1)) (r - 1) refl refl refl x l q h y z k _;
+    }

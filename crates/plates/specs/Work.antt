@@ -1,5 +1,5 @@
 -- What the parts of the code compute.
-use Rattle.std.specs.Prelude.{◌≡◌, ℕ, ◌+◌, ◌*◌, ◌<◌, ◌≤◌, max, Bool, true, false, ◌≢◌, List, map, Some, None, Option, slice_index, slice_index_or}
+use Rattle.std.specs.Prelude.{◌≡◌, ℕ, ◌+◌, ◌-◌, ◌*◌, ◌<◌, ◌≤◌, min, max, if◌then◌else◌, nat_le, ◌&&◌, length, Bool, true, false, ◌≢◌, List, map, Some, None, Option, slice_index, slice_index_or}
 use Rattle.bounds.specs.declared.row.Row.{Row}
 use Rattle.plates.specs.declared.frame.Sums.{Sums}
 use Rattle.plates.specs.declared.frame.Frame.TheInside.{Inside}
@@ -57,6 +57,34 @@ pub record Small (f : Frame) : Type 0 where
   pub order : f.fewest ≤ f.most
   pub light : f.lows + f.fewest ≤ f.ceiling
   pub kinds : f.certain + f.most < 65536
+
+-- the most optional counts for which the bounds of the variety v and the slots s have room
+abbrev pub room_for : Sums → Row → Row → Option ℕ
+room_for m s v = if nat_le m.certain v.high && nat_le m.lows s.high then Some (min m.optional (min (v.high - m.certain) (s.high - m.lows))) else None
+
+-- with r to k optional counts present, of which t has the largest sums
+abbrev pub frame_with : Row → Sums → List ℕ → ℕ → ℕ → Frame
+frame_with s m t r k = record {
+  floor = s.low;
+  ceiling = s.high;
+  certain = m.certain;
+  optional = m.optional;
+  lows = m.lows;
+  fewest = r;
+  most = k;
+  under = sum_at t m.base (r - 1);
+  at = sum_at t m.base k;
+  over = sum_at t m.base (min m.optional (k + 1));
+}
+
+-- and its numbers have room
+pub record Spanned (s : Row) (m : Sums) (t : List ℕ) (r k : ℕ) : Type 0 where
+  pub whole : length t ≡ 65
+  pub order : r ≤ k
+  pub exist : k ≤ m.optional
+  pub few : m.optional ≤ 64
+  pub light : (j : ℕ) → j ≤ m.optional → sum_at t m.base j < 16777216
+  pub small : Small (frame_with s m t r k)
 
 abbrev pub Framed : Row → Row → List Row → Option Frame → Type 0
 Framed s v cs None = feasible s v cs ≡ false

@@ -1,7 +1,7 @@
 // The narrowing of a plate, in closed form.
 ghost use Rattle.std.specs.Prelude.{◌≡◌, ℕ, ◌+◌, ◌-◌, ◌*◌, ◌<◌, ◌≤◌, length};
 ghost use Rattle.plates.specs.Form.{seek, slots_of, variety_of, low_of, high_of, count_of};
-ghost use Rattle.plates.specs.Work.{Admitted, Light, Summed, Topped, Framed, Wrote, sum_at};
+ghost use Rattle.plates.specs.Work.{Admitted, Light, Summed, Topped, Framed, Spanned, Wrote, room_for, frame_with};
 
 use bounds::row::Row;
 use std::marker::Model;
@@ -88,31 +88,32 @@ fn add_up(counts: &[Row], top: &mut [u32]) -> Sums
     }
 }
 
-impl Frame {
-    // None where no filling of the rows meets the rule.
-    // Kept: that the counts are 64 at most is a fact of the plate's record, which plain rows do not know.
-    pub fn of(slots: Row, variety: Row, counts: &[Row]) -> Option<Frame>
-        requires { length counts.now ≤ 64 }
-        ensures { Framed slots variety counts.now result }
+impl Sums {
+    // The most optional counts for which the variety and the slots have room; None where even none of them fits.
+    fn most(self, slots: Row, variety: Row) -> Option<u32>
+        ensures { result ≡ room_for self slots variety }
     {
-        // Kept: settling has no heap, so the sums of at most 64 counts lie in an array that has room for all.
-        let mut top = [0u32; 65];
+        let kinds = u32::from(variety.high).checked_sub(self.certain)?;
+        let copies = u32::from(slots.high).checked_sub(self.lows)?;
+        Some(self.optional.min(kinds).min(copies))
+    }
+}
+
+impl Frame {
+    // With at least `fewest` and at most `most` optional counts present, of which `top` has the largest sums.
+    fn between(slots: Row, sums: Sums, top: &[u32], fewest: u32, most: u32) -> Frame
+        requires { Spanned slots sums top.now fewest most }
+        ensures { result ≡ frame_with slots sums top.now fewest most }
+    {
         let Sums {
             certain,
             optional,
             lows,
             base,
-        } = add_up(counts, &mut top);
-        let floor = u32::from(slots.low);
-        let ceiling = u32::from(slots.high);
-        let kinds = u32::from(variety.high).checked_sub(certain)?;
-        let copies = ceiling.checked_sub(lows)?;
-        let most = optional.min(kinds).min(copies);
-        let least = u32::from(variety.low).saturating_sub(certain);
-        let fewest = (least..most + 1).find(|k| base + top[*k as usize] >= floor)?;
-        Some(Frame {
-            floor,
-            ceiling,
+        } = sums;
+        Frame {
+            floor: u32::from(slots.low),
+            ceiling: u32::from(slots.high),
             certain,
             optional,
             lows,
@@ -121,7 +122,23 @@ impl Frame {
             under: base + top[fewest.saturating_sub(1) as usize],
             at: base + top[most as usize],
             over: base + top[optional.min(most + 1) as usize],
-        })
+        }
+    }
+
+    // None where no filling of the rows meets the rule.
+    // Kept: that the counts are 64 at most is a fact of the plate's record, which plain rows do not know.
+    pub fn of(slots: Row, variety: Row, counts: &[Row]) -> Option<Frame>
+        requires { length counts.now ≤ 64 }
+        ensures { Framed slots variety counts.now result }
+    {
+        // Kept: settling has no heap, so the sums of at most 64 counts lie in an array that has room for all.
+        let mut top = [0u32; 65];
+        let sums = add_up(counts, &mut top);
+        let most = sums.most(slots, variety)?;
+        let least = u32::from(variety.low).saturating_sub(sums.certain);
+        let floor = u32::from(slots.low);
+        let fewest = (least..most + 1).find(|k| sums.base + top[*k as usize] >= floor)?;
+        Some(Frame::between(slots, sums, &top, fewest, most))
     }
 
     // Kept: that these casts and those below keep each number is proved, where a try_from would add an error that cannot be.

@@ -26,7 +26,7 @@ pub struct Plate<'f> {
 }
 
 // Narrows the rows of the slots, the variety and the counts to the hull of the fillings that meet the rule.
-#[tactic(auto, using(crate::proofs::Whole::void_outcome))]
+#[tactic(auto, using(crate::proofs::Whole::narrowing))]
 fn narrow(slots: &mut Row, variety: &mut Row, counts: &mut [Row]) -> Change
     requires few { length counts.old ≤ 64 }
     requires sound { sound (slots.old ∷ (variety.old ∷ counts.old)) ≡ true }

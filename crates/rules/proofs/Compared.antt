@@ -1,10 +1,14 @@
 -- What `==` on rows tells.
-use Rattle.std.proofs.Common.{◌≡◌, Bool, true, false, ◌&&◌, not, eqb, ◌≢◌, ◌⊎◌, List, Decides, sym, refl, ap, ◌∙◌, inl, inr}
+use Rattle.std.proofs.Common.{◌≡◌, ℕ, Bool, true, false, ◌&&◌, not, eqb, ◌≢◌, ◌⊎◌, List, length, Decides, sym, refl, ap, ◌∙◌, inl, inr}
 use Rattle.std.specs.Cmp.Lexicographic.{pointwise, pointwise_decides}
 use Rattle.std.proofs.lemmas.Bool.{true≢false, false≢true, cases_Bool}
 use Rattle.std.proofs.lemmas.Bool.Decides.{Decides-at, Decides-like, Decides-and, Decides-eqb}
 use Rattle.bounds.specs.declared.row.Row.{Row}
+use Rattle.bounds.specs.contracts.row.RowPartialEq.TheImpl.{eq-value}
+use Rattle.bounds.specs.Boards.{none_row}
+use Rattle.bounds.specs.Scoped.{gather, scatter}
 use Rattle.bounds.proofs.Places.{same_row}
+use Rattle.bounds.proofs.Scopes.{scatter_same}
 
 module _ (r s : Row) where
   -- as the derived `eq` computes it
@@ -36,3 +40,20 @@ rows_tested xs ys = let d = rows_decided xs ys _ refl in elim (cases_Bool (point
   | inl e ↦ inl (e, d.0 e)
   | inr e ↦ inr (e, λ k. true≢false (sym (d.1 k) ∙ e))
 ]
+
+-- as `==` on slices of rows spells it
+pub slices_tested : (xs ys : List Row) → ((pointwise (eq-value).it xs ys ≡ true) × (xs ≡ ys)) ⊎ ((pointwise (eq-value).it xs ys ≡ false) × (xs ≢ ys))
+slices_tested = rows_tested
+
+-- and as `!=` on rows computes
+pub row_tested : (a b : Row) → ((not (eqb a.low b.low && eqb a.high b.high) ≡ true) × (a ≢ b)) ⊎ ((not (eqb a.low b.low && eqb a.high b.high) ≡ false) × (a ≡ b))
+row_tested a b = elim (cases_Bool (same_row_test a b)) [
+  | inl e ↦ let n = ap not e in inr (n, rows_agree a b _ refl (sym n))
+  | inr e ↦ let n = ap not e in inl (n, rows_differ a b _ refl (sym n))
+]
+
+-- rows written to the named cells that read there as before
+pub scatter_back : (cs : List ℕ) (g xs : List Row) → length g ≡ length cs → gather none_row cs xs ≡ gather none_row cs (scatter cs g xs) → scatter cs g xs ≡ xs
+scatter_back cs g xs e h = sym (scatter_same none_row cs g xs e h)
+
+pub ruleset writing_back = (slices_tested, scatter_back)

@@ -22,6 +22,7 @@ pub fn if_sound<const N: usize>(rows: [Row; N]) -> Option<[Row; N]>
 }
 
 // Writes the narrowed rows over a rule's own; without any, the rule has no filling left.
+#[tactic(auto, using(crate::proofs::Compared::slices_tested))]
 pub fn written<const N: usize>(own: &mut [Row], narrowed: Option<[Row; N]>) -> Change
     requires { length own.old ≡ N }
     ensures { Narrows (λ _. board_of narrowed.entry) own.old own.new result }

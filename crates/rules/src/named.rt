@@ -73,6 +73,7 @@ fn narrow_in<R: Named, const N: usize>(rule: &R, rows: &mut [Row]) -> Change
 }
 
 // Writes the rows to the named cells, and gathers them again. The board may be what it was: a cell that is named twice may get its row back.
+#[tactic(auto, using(crate::proofs::Compared::writing_back))]
 fn written_back<R: Scope, const N: usize>(rule: &R, rows: &mut [Row], own: &mut [Row]) -> Change
     requires own { length own.old ≡ length (R.scope rule.now) }
     requires room { length own.old ≤ N }

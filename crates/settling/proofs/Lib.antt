@@ -1,3 +1,4 @@
 pub mod Holds
 pub mod Applied
 pub mod Sleeps
+pub mod Stated

@@ -3,3 +3,5 @@ pub mod Opened
 pub mod Scope
 pub mod Exactness
 pub mod Stated
+pub mod Limits
+pub mod Written

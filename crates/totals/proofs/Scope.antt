@@ -34,3 +34,8 @@ scope_told t = elim (cases_Bool (total_limits t)) [
   | inl e ↦ let l = lawful_says t e in inr (scope_length t e, l.few, l.weights)
   | inr e ↦ inl (ap (λ (s : Scoped). length s.scope) (total_unnamed t e))
 ]
+
+-- of the record at a spot
+pub spot_told : (t : Total) → (length (total_scoped (record_of t)).scope ≡ 0)
+    ⊎ ((length (total_scoped (record_of t)).scope ≡ length (record_of t).terms) × (length (record_of t).terms ≤ 64) × (weighted (record_of t).terms ≡ true))
+spot_told t = scope_told (record_of t)

@@ -1,6 +1,6 @@
 -- The narrowed rows of each kind in closed form, and that they are exact.
-use Rattle.std.proofs.Common.{◌≡◌, ℕ, zero, suc, ◌+◌, ◌-◌, ◌<◌, ◌≤◌, min, max, Bool, true, cond, ◌⊎◌, List, [], ◌∷◌, length, refl, ap, ◌∙◌, inl, inr, arith}
-use Rattle.std.proofs.lemmas.Bool.{leb-true, le-leb, cases_lt}
+use Rattle.std.proofs.Common.{◌≡◌, ℕ, zero, suc, ◌+◌, ◌-◌, ◌<◌, ◌≤◌, min, max, Bool, true, cond, ltb, ◌⊎◌, List, [], ◌∷◌, length, refl, ap, ◌∙◌, inl, inr, arith}
+use Rattle.std.proofs.lemmas.Bool.{leb-true, le-leb, cases_lt, cond-true, cond-false, lt-ltb, le-ltb}
 use Rattle.bounds.specs.declared.row.Row.{Row}
 use Rattle.bounds.specs.Boards.{void, cells, sound, Fills}
 use Rattle.bounds.specs.Exact.{exact}
@@ -16,6 +16,12 @@ use Rattle.triples.proofs.Frames.{Sound, Narrowed, exact_three}
 -- r is u where x is below y, and else v
 abbrev pub IfBelow : ℕ → ℕ → ℕ → ℕ → ℕ → Type 0
 IfBelow x y r u v = ((x < y) × (r ≡ u)) ⊎ ((y ≤ x) × (r ≡ v))
+
+if_below : (x y u v : ℕ) → IfBelow x y (cond (ltb x y) u v) u v
+if_below x y u v = elim (cases_lt x y) [
+  | inl l ↦ inl (l, cond-true _ u v (lt-ltb x y l))
+  | inr l ↦ inr (l, cond-false _ u v (le-ltb x y l))
+]
 
 cut_sound : (g a : Row) (l h : ℕ) → Cut g a l h → g.low ≤ g.high → a.low ≤ a.high
 cut_sound g a l h u s = omega arith
@@ -103,25 +109,29 @@ module _ (rows : List Row) (whole : length rows ≡ 3) where
   exact_rows : (op : ℕ → ℕ → ℕ) (g h k : Row) → Narrowed op first second third g h k → ExactRows (makes op) g h k
   exact_rows op g h k n = ap (exact (makes op)) (as_three rows whole) ∙ exact_three op first second third g h k n
 
-  pub union_array : (x y : ℕ) → let k = common third (max first.low second.low) (max first.high second.high) in
-      IfBelow second.high k.low x k.low first.low → IfBelow first.high k.low y k.low second.low
-      → ExactRows (relation Union) (common first x k.high) (common second y k.high) k
-  union_array x y p q =
+  pub union_array :
+      let k = common third (max first.low second.low) (max first.high second.high) in
+      let x = cond (ltb second.high k.low) k.low first.low in let y = cond (ltb first.high k.low) k.low second.low in
+      ExactRows (relation Union) (common first x k.high) (common second y k.high) k
+  union_array =
       let k : Row = common third (max first.low second.low) (max first.high second.high) in
+      let x = cond (ltb second.high k.low) k.low first.low in let y = cond (ltb first.high k.low) k.low second.low in
       let g : Row = common first x k.high in
       let h : Row = common second y k.high in
       exact_rows max g h k (union_narrowed first second third g h k x y
-      (record { first = (refl, refl); second = (refl, refl); whole = (refl, refl); first_low = p; second_low = q }))
+      (record { first = (refl, refl); second = (refl, refl); whole = (refl, refl); first_low = if_below _ _ _ _; second_low = if_below _ _ _ _ }))
 
-  pub intersection_array : (x y : ℕ) → let k = common third (min first.low second.low) (min first.high second.high) in
-      IfBelow k.high second.low x k.high first.high → IfBelow k.high first.low y k.high second.high
-      → ExactRows (relation Intersection) (common first k.low x) (common second k.low y) k
-  intersection_array x y p q =
+  pub intersection_array :
+      let k = common third (min first.low second.low) (min first.high second.high) in
+      let x = cond (ltb k.high second.low) k.high first.high in let y = cond (ltb k.high first.low) k.high second.high in
+      ExactRows (relation Intersection) (common first k.low x) (common second k.low y) k
+  intersection_array =
       let k : Row = common third (min first.low second.low) (min first.high second.high) in
+      let x = cond (ltb k.high second.low) k.high first.high in let y = cond (ltb k.high first.low) k.high second.high in
       let g : Row = common first k.low x in
       let h : Row = common second k.low y in
       exact_rows min g h k (intersection_narrowed first second third g h k x y
-      (record { first = (refl, refl); second = (refl, refl); whole = (refl, refl); first_high = p; second_high = q }))
+      (record { first = (refl, refl); second = (refl, refl); whole = (refl, refl); first_high = if_below _ _ _ _; second_high = if_below _ _ _ _ }))
 
   pub plus_array : third.high ≤ 65535
       → ExactRows (relation UnionPlus) (common first (third.low - second.high) (third.high - second.low)) (common second (third.low - first.high) (third.high - first.low))

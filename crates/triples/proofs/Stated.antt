@@ -1,19 +1,27 @@
 -- Stated of what this crate and those below define, and used by none of its proofs.
-use Rattle.std.proofs.Common.{◌≡◌, ℕ, ◌+◌, ◌<◌, min, max, Bool, true, false, cond, List, length, sym, ap, ◌∙◌, inl, inr, arith}
+use Rattle.std.proofs.Common.{◌≡◌, ℕ, ◌+◌, ◌<◌, min, max, Bool, true, false, cond, Option, List, length, sym, ap, ◌∙◌, inl, inr, arith}
 use Rattle.std.proofs.lemmas.Bool.{cases_Bool}
 use Rattle.bounds.specs.declared.row.Row.{Row}
 use Rattle.bounds.specs.Boards.{Board, void, cells, sound}
 use Rattle.bounds.specs.Cells.{common}
 use Rattle.bounds.specs.Exact.{exact}
-use Rattle.bounds.specs.Scoped.{distinct}
+use Rattle.bounds.specs.Scoped.{ScopedLaws, distinct}
 use Rattle.bounds.proofs.Places.{low_at, high_at, sound_at}
-use Rattle.bounds.proofs.Lifted.{lifted_exact}
+use Rattle.bounds.proofs.Lifted.{lifted_exact, exact_on_laws}
+use Rattle.rules.specs.Numbers.{or_none, none_laws}
 use Rattle.rules.proofs.Rows.{three, Cut}
-use Rattle.triples.specs.Triples.{relation, scope, rule_of, ExactOnBoards}
+use Rattle.triples.specs.Triples.{relation, scope, rule_of, read, triple_rule, ExactOnBoards}
 use Rattle.triples.specs.declared.triple.Triple.{Triple}
 use Rattle.records.specs.declared.triples.TripleKind.TheVariants.{Union, Intersection, UnionPlus}
 use Rattle.triples.proofs.Frames.{exact_three}
 use Rattle.triples.proofs.Closed.{UnionRows, IntersectionRows, PlusRows, union_narrowed, intersection_narrowed, plus_narrowed}
+
+-- the laws of a triple, of a record that may be none, and of what stands at a place of a file
+rule_laws : (o : Option Triple) → ScopedLaws (or_none rule_of o)
+rule_laws = none_laws rule_of (λ t. exact_on_laws (scope t.kind t.a t.b t.c) (relation t.kind))
+
+triple_laws : (f : List ℕ) (i : ℕ) → ScopedLaws (triple_rule f i)
+triple_laws f i = rule_laws (read f i)
 
 at_unsound : (a : List Row) (i : ℕ) → i < length a → high_at a i < low_at a i → sound a ≡ false
 at_unsound a i l h = elim (cases_Bool (sound a)) [ inl s ↦ absurd (omega (arith, sound_at a s i l)) | inr n ↦ n ]

@@ -1,5 +1,5 @@
 // The exact narrowing of the rows that a triple of each kind ties together; None where no filling of them meets it.
-ghost use Rattle.std.specs.Prelude.{◌≡◌, ◌+◌, ◌≤◌, min};
+ghost use Rattle.std.specs.Prelude.{◌≡◌, ◌+◌, ◌≤◌, min, nat_lt, if◌then◌else◌};
 ghost use Rattle.bounds.specs.Cells.{common};
 ghost use Rattle.bounds.specs.Exact.{exact};
 ghost use Rattle.rules.specs.Answers.{board_of};
@@ -9,41 +9,53 @@ use bounds::row::Row;
 use records::triples::TripleKind;
 use rules::arrays::if_sound;
 
+// The least of one part of the whole: all of the whole's least, where the other part cannot reach it.
+fn least(part: Row, other: Row, whole: Row) -> u16
+    ensures { result ≡ (if nat_lt other.high whole.low then whole.low else part.low) }
+{
+    if other.high < whole.low {
+        whole.low
+    } else {
+        part.low
+    }
+}
+
 // The third is the greater of the first two: where one of them cannot be it, the other must.
+#[tactic(auto, using(crate::proofs::Closed::union_array))]
 pub fn union(rows: [Row; 3]) -> Option<[Row; 3]>
     ensures { board_of result ≡ exact (relation TripleKind.Union) rows }
 {
     let [a, b, c] = rows;
     let whole = c.common(a.low.max(b.low), a.high.max(b.high));
-    let a_low = if b.high < whole.low { whole.low } else { a.low };
-    let b_low = if a.high < whole.low { whole.low } else { b.low };
     if_sound([
-        a.common(a_low, whole.high),
-        b.common(b_low, whole.high),
+        a.common(least(a, b, whole), whole.high),
+        b.common(least(b, a, whole), whole.high),
         whole,
     ])
 }
 
+// The most of one part: all of the whole's most, where the other part stays above it.
+fn most(part: Row, other: Row, whole: Row) -> u16
+    ensures { result ≡ (if nat_lt whole.high other.low then whole.high else part.high) }
+{
+    if whole.high < other.low {
+        whole.high
+    } else {
+        part.high
+    }
+}
+
 // The third is the lesser of the first two.
 // Kept: a union with the order reversed, where a row turned round and back would say less plainly which bound moves.
+#[tactic(auto, using(crate::proofs::Closed::intersection_array))]
 pub fn intersection(rows: [Row; 3]) -> Option<[Row; 3]>
     ensures { board_of result ≡ exact (relation TripleKind.Intersection) rows }
 {
     let [a, b, c] = rows;
     let whole = c.common(a.low.min(b.low), a.high.min(b.high));
-    let a_high = if whole.high < b.low {
-        whole.high
-    } else {
-        a.high
-    };
-    let b_high = if whole.high < a.low {
-        whole.high
-    } else {
-        b.high
-    };
     if_sound([
-        a.common(whole.low, a_high),
-        b.common(whole.low, b_high),
+        a.common(whole.low, most(a, b, whole)),
+        b.common(whole.low, most(b, a, whole)),
         whole,
     ])
 }

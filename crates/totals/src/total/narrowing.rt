@@ -18,6 +18,7 @@ impl Total<'_> {
         Totals::weight(self.spot, i)
     }
 
+    #[tactic(auto, using(crate::proofs::Limits::limiting))]
     pub(super) fn limits(&self, own: &[Row]) -> Limits
         requires many { length own.now ≡ length (record_of self.now).terms }
         requires few { length own.now ≤ 64 }
@@ -51,6 +52,7 @@ impl Total<'_> {
         change
     }
 
+    #[tactic(auto, using(crate::proofs::Written::bounding))]
     pub(super) fn write(&self, limits: Open, own: &mut [Row])
         requires { Opened self.now own.old limits.sum }
         ensures { own.new ≡ new_rows self.now own.old }

@@ -38,6 +38,7 @@ impl Named for Total<'_> {
 
     ghost few = { λ t. total_few (record_of t) };
 
+    #[tactic(auto, using(crate::proofs::Scope::spot_told))]
     fn narrow_own(&self, own: &mut [Row]) -> Change {
         // Only a rule that asks nothing names no cell.
         if own.is_empty() {
