@@ -12,7 +12,7 @@ use Rattle.board.specs.declared.unfit.Refused.{Refused}
 use Rattle.board.specs.Calls.{as_read}
 use Rattle.board.specs.declared.unfit.Unfit.{Unfit}
 use Rattle.board.specs.declared.unfit.Unfit.TheVariants.{Size, Room, Unsound}
-use Rattle.std.proofs.lemmas.Bool.{and_from, and_parts, and_cases, le-leb, leb-true, leb-false}
+use Rattle.std.proofs.lemmas.Bool.{cond-true, and_from, and_parts, and_cases, le-leb, leb-true, leb-false}
 use Rattle.board.specs.Makes.{unfit, roomless, Makes}
 use Rattle.job.specs.declared.job.Job.{Job}
 use Rattle.job.specs.Jobs.{job_file, job_found}
@@ -59,6 +59,12 @@ enough false room sound s e = none_some _ (sym e)
 pub refused : (j : Job) (room trial_room : ℕ) (why : Unfit) → roomless (length (job_rows j)) room trial_room ≡ Some why
     → unfit (length (job_rows j)) (job_rows j) room trial_room ≡ Some why
 refused j room trial_room why is = (sizes _ _ (sound (job_rows j)) why (some_few j) is).1
+
+pub fitting : (j : Job) (room trial_room : ℕ) → length (job_rows j) ≤ room → 16 * length (job_rows j) ≤ trial_room
+    → roomless (length (job_rows j)) room trial_room ≡ None
+fitting j room trial_room h g =
+    let n = length (job_rows j) in
+    cond-true _ _ _ (some_few j) ∙ cond-true _ _ _ (and_from (leb n room) (leb (16 * n) trial_room) (le-leb n room h) (le-leb (16 * n) trial_room g))
 
 pub lacking : (j : Job) (room trial_room : ℕ) (why : Unfit) → roomless (length (job_rows j)) room trial_room ≡ Some why
     → (room < length (job_rows j)) ⊎ (trial_room < 16 * length (job_rows j))

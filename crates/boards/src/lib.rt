@@ -11,7 +11,7 @@ use bounds::row::Row;
 use job::job::Job;
 
 // The board as read. Where the memory is too small it comes back untouched.
-#[tactic(auto, using(crate::proofs::Opened::opened, crate::proofs::Opened::rows_counted, crate::proofs::Opened::refused, crate::proofs::Opened::roomy, crate::proofs::Opened::has_room))]
+#[tactic(auto, using(crate::proofs::Opened::opened, crate::proofs::Opened::rows_counted, crate::proofs::Opened::refused, crate::proofs::Opened::roomy, crate::proofs::Opened::has_room, crate::proofs::Opened::fitting))]
 pub fn board_of(job: &Job<'_>, rows: Vec<Row>, saved: Vec<Row>) -> Result<Board, Refused>
     ensures opens { Opens (job_rows job.now) rows saved result }
     ensures room { HasRoom (job_rows job.now) rows saved result }

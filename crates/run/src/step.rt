@@ -1,5 +1,5 @@
 // One call of a script.
-ghost use Rattle.std.specs.Prelude.{◌≡◌};
+ghost use Rattle.std.specs.Prelude.{◌≡◌, ◌≤◌, [], length, take, vec_capacity, MatchResult};
 ghost use Rattle.run.specs.Results.{of_ask};
 ghost use Rattle.run.specs.Scripts.{Steps};
 
@@ -48,15 +48,23 @@ fn sought<F: Family>(
 {
     let cells = board.cells();
     // The room for a plan comes first, so that a seek that is made is answered.
-    let mut counts = Vec::with_capacity(heap, cells)?;
+    let counts = Vec::with_capacity(heap, cells)?;
     match seek(board, family, plan, scratch) {
-        Ok(true) => {
-            counts.extend_from_slice(&plan[..cells])?;
-            Ok(Answer::Plan(counts))
-        }
+        Ok(true) => Ok(Answer::Plan(copied(counts, plan, cells)?)),
         Ok(false) => Ok(Answer::NoPlan),
         Err(why) => Ok(Answer::Refused(why)),
     }
+}
+
+// The plan at the front of the plan memory, copied to memory that has room for it.
+fn copied(mut counts: Vec<u16>, plan: &[u16], cells: usize) -> Result<Vec<u16>, AllocError>
+    requires none { counts.items ≡ [] }
+    requires room { cells ≤ vec_capacity counts }
+    requires whole { cells ≤ length plan.now }
+    ensures { MatchResult result (λ copy. copy.items ≡ take cells plan.now) (λ _. ⊥) }
+{
+    counts.extend_from_slice(&plan[..cells])?;
+    Ok(counts)
 }
 
 // Kept: as a From it would take a pair of the cell and the result, which is no plainer.

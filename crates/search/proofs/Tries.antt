@@ -15,7 +15,7 @@ use Rattle.settling.specs.declared.settled.Settled.TheVariants.{Settled, Void}
 use Rattle.settling.specs.Plans.{First, Before, NoPlan}
 use Rattle.settling.specs.Settles.{Settles}
 use Rattle.settling.proofs.Applied.{Keeps, applied_keeps}
-use Rattle.search.specs.Seeks.{is_open, opens, Searched}
+use Rattle.search.specs.Seeks.{is_open, opens, fixed_at, Searched}
 use Rattle.search.proofs.Leaves.{fixed_plan}
 
 abbrev pub NoneIn : Meaning → List Row → Type 0
@@ -85,10 +85,7 @@ opens_inside (x ∷ a) (y ∷ b) h = rw (opens_cons x a, opens_cons y b) (grind 
 level_room : (k n o r : ℕ) → o + 1 ≤ k → k * n ≤ r → o * n + n ≤ r
 level_room k n o r l h = omega (arith, mul-le-mul_right n l, add-mul o 1 n)
 
--- the cell at its lowest count, and without it
-abbrev pub fixed_at : List Row → ℕ → List Row
-fixed_at a c = set a c (record { low = low_at a c; high = low_at a c })
-
+-- the cell without its lowest count
 abbrev pub raised_at : List Row → ℕ → List Row
 raised_at a c = set a c (record { low = low_at a c + 1; high = high_at a c })
 

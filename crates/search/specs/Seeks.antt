@@ -1,7 +1,7 @@
 -- The event that a seek's answer is, and what it says of the memory lent to it.
-use Rattle.std.specs.Prelude.{◌≡◌, ℕ, ◌==◌, nat_lt, not, count_by, Bool, true, false, List, length, take, drop, Ok, Err, Result}
+use Rattle.std.specs.Prelude.{◌≡◌, ℕ, ◌==◌, nat_lt, not, count_by, Bool, true, false, List, length, take, drop, slice_index_or, slice_set, Ok, Err, Result}
 use Rattle.bounds.specs.declared.row.Row.{Row}
-use Rattle.bounds.specs.Boards.{Fills}
+use Rattle.bounds.specs.Boards.{Fills, none_row}
 use Rattle.bounds.specs.Laws.{Meaning}
 use Rattle.board.specs.declared.refusal.Refusal.{Refusal}
 use Rattle.board.specs.Calls as calls
@@ -29,6 +29,10 @@ is_open r = not (r.low == r.high)
 -- how many cells are open, of sound rows
 abbrev pub opens : List Row → ℕ
 opens = count_by (λ r. nat_lt r.low r.high)
+
+-- the rows with a cell at its lowest count
+abbrev pub fixed_at : List Row → ℕ → List Row
+fixed_at a c = let low = (slice_index_or a c none_row).low in slice_set a c (record { low = low; high = low })
 
 -- whether there is a plan in the rows: the first is then written at the front of the counts
 abbrev pub Searched : Meaning → List Row → List ℕ → List ℕ → Bool → Type 0

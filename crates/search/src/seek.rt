@@ -3,7 +3,7 @@ ghost use Rattle.std.specs.Prelude.{◌≡◌, ◌+◌, ◌*◌, ◌<◌, ◌≤
 ghost use Rattle.bounds.specs.Boards.{sound, lows};
 ghost use Rattle.board.specs.Calls.{Does};
 ghost use Rattle.board.specs.Held.{state};
-ghost use Rattle.search.specs.Seeks.{event_of_seek, Memory, is_open, opens, Searched};
+ghost use Rattle.search.specs.Seeks.{event_of_seek, Memory, is_open, opens, fixed_at, Searched};
 
 use board::board::Board;
 use board::refusal::Refusal;
@@ -57,14 +57,23 @@ fn search<F: Family>(family: &F, level: &mut [Row], plan: &mut [u16], rest: &mut
             return true;
         };
         let (tried, deeper) = rest.split_at_mut(cells);
-        tried.copy_from_slice(level);
+        at_lowest(level, cell, tried);
         let row = level[cell];
-        tried[cell].high = row.low;
         if search(family, tried, plan, deeper) {
             return true;
         }
         level[cell].low = row.low + 1;
     }
+}
+
+// Copies the level, but for a cell that has its lowest count alone there.
+fn at_lowest(level: &[Row], cell: usize, tried: &mut [Row])
+    requires cell { cell < length level.now }
+    requires room { length tried.old ≡ length level.now }
+    ensures { tried.new ≡ fixed_at level.now cell }
+{
+    tried.copy_from_slice(level);
+    tried[cell].high = level[cell].low;
 }
 
 fn first_open(rows: &[Row]) -> Option<usize>

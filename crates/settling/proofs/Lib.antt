@@ -1,4 +1,4 @@
 pub mod Holds
 pub mod Applied
 pub mod Sleeps
-pub mod Stated
+pub mod Scans

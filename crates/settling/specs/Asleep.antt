@@ -1,8 +1,10 @@
 -- Which rules are pending: one that is not is quiet on the rows.
-use Rattle.std.specs.Prelude.{◌≡◌, ℕ, ◌<◌, Bool, true, false, List, ◌≢◌, slice_index_or}
+use Rattle.std.specs.Prelude.{◌≡◌, ℕ, ◌<◌, Bool, true, false, List, ◌≢◌, slice_index_or, slice_set}
 use Rattle.bounds.specs.declared.row.Row.{Row}
 use Rattle.bounds.specs.Boards.{cells}
 use Rattle.bounds.specs.Laws.{Meaning}
+use Rattle.rule_families.specs.declared.change.Change.{Change}
+use Rattle.rule_families.specs.declared.change.Change.TheVariants.{Quiet, Narrowed, Void}
 
 abbrev pub Asleep : Meaning → List Row → List Bool → Type 0
 Asleep m a p = (q : ℕ) → q < m.size → slice_index_or p q true ≡ false → (m.rule q).narrowed a ≡ cells a
@@ -18,3 +20,9 @@ WokenAt m n c p p' = (q : ℕ) → q < m.size → slice_index_or p' q true ≡ f
 -- and it touches none of the cells that rule r touches
 abbrev pub Woken : Meaning → ℕ → ℕ → List Bool → List Bool → Type 0
 Woken m n r p p' = (q : ℕ) → q < m.size → slice_index_or p' q true ≡ false → (slice_index_or p q true ≡ false) × Apart m n n r q
+
+-- what a rule's answer makes of the pending rules
+abbrev pub Marked : Meaning → ℕ → ℕ → List Bool → List Bool → Change → Type 0
+Marked m n r p p' Quiet = p' ≡ slice_set p r false
+Marked m n r p p' Narrowed = Woken m n r p p'
+Marked m n r p p' Void = p' ≡ p

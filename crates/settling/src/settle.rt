@@ -1,7 +1,8 @@
 // What narrows rows until no rule narrows them.
-ghost use Rattle.std.specs.Prelude.{◌≡◌, ◌≤◌, true, length};
+ghost use Rattle.std.specs.Prelude.{◌≡◌, ◌<◌, ◌≤◌, true, length, replicate};
 ghost use Rattle.bounds.specs.Boards.{sound, spread};
-ghost use Rattle.settling.specs.Asleep.{Woken, WokenAt};
+ghost use Rattle.rule_families.specs.Narrows.{Narrows};
+ghost use Rattle.settling.specs.Asleep.{Woken, WokenAt, Marked};
 ghost use Rattle.settling.specs.Settles.{Settles};
 
 use crate::settled::Settled;
@@ -18,26 +19,50 @@ pub fn settle_rows<F: Family>(family: &F, rows: &mut [Row]) -> Settled
     requires few { length rows.old ≤ 1024 }
     ensures { Settles (F.meaning family.now) rows.old rows.new result }
 {
-    let cells = rows.len();
-    let mut pending = [true; MOST_RULES];
+    let mut pending = all_pending();
     // Each application takes one at least from the width.
     'scan: for applied in 0..width(rows) {
         for rule in 0..family.size() {
             if !pending[rule] {
                 continue;
             }
-            match family.narrow(rule, rows) {
-                Change::Quiet => pending[rule] = false,
-                Change::Narrowed => {
-                    wake(family, rule, cells, &mut pending);
-                    continue 'scan;
-                }
+            match apply(family, rule, rows, &mut pending) {
+                Change::Quiet => {}
+                Change::Narrowed => continue 'scan,
                 Change::Void => return Settled::Void(applied + 1),
             }
         }
         return Settled::Settled(applied);
     }
     unreachable()
+}
+
+fn all_pending() -> [bool; MOST_RULES]
+    ensures { result ≡ replicate 4096 true }
+{
+    [true; MOST_RULES]
+}
+
+// Narrows the rows by the rule: where it is quiet it waits no more, and where it narrows them it wakes what it may have stirred.
+fn apply<F: Family>(
+    family: &F,
+    rule: usize,
+    rows: &mut [Row],
+    pending: &mut [bool; MOST_RULES],
+) -> Change
+    requires sound { sound rows.old ≡ true }
+    requires listed { rule < 4096 }
+    ensures narrows { Narrows ((F.meaning family.now).rule rule).narrowed rows.old rows.new result }
+    ensures marks { Marked (F.meaning family.now) (length rows.old) rule pending.old pending.new result }
+{
+    let cells = rows.len();
+    let change = family.narrow(rule, rows);
+    match change {
+        Change::Quiet => pending[rule] = false,
+        Change::Narrowed => wake(family, rule, cells, pending),
+        Change::Void => {}
+    }
+    change
 }
 
 // One more than the counts by which the highs exceed the lows.

@@ -1,4 +1,4 @@
-use Rattle.std.proofs.Common.{ℕ, List, ◌++◌, take, Ok, ap, ◌∙◌}
+use Rattle.std.proofs.Common.{ℕ, take, Ok, ap, ◌∙◌}
 use Rattle.run.proofs.Makes.{made_found, made_none, made_refused}
 use Rattle.run.proofs.step.sought.Goals as goal
 
@@ -7,13 +7,12 @@ returns-in-Err g c =
     made_refused _ (g.F.Family.lawful c.args.family.now) c.args.board.now c.args.plan.now c.seek.new.plan c.args.scratch.now c.seek.new.scratch
     c.seek.auto.plan c.seek.auto.scratch c.seek.result c.seek.ensures.does c.seek.ensures.memory c.in-Err.why c.in-Err.is
 
-pub returns-in_ok-extend_from_slice-in-Ok-true : goal.returns-in_ok-extend_from_slice-in-Ok-true
-returns-in_ok-extend_from_slice-in-Ok-true g c =
+pub returns-in_ok-copied-in-Ok-true : goal.returns-in_ok-copied-in-Ok-true
+returns-in_ok-copied-in-Ok-true g c =
     let q = c.seek.new.plan in
     made_found _ (g.F.Family.lawful c.args.family.now) c.args.board.now c.args.plan.now q c.args.scratch.now c.seek.new.scratch
-    c.seek.auto.plan c.seek.auto.scratch c.seek.result c.seek.ensures.does c.seek.ensures.memory c.extend_from_slice.new.self
-    (c.in_ok-extend_from_slice-in-Ok-true.ensures.items ∙ ap (λ (l : List ℕ). l ++ take c.cells-cells.result q) c.in_ok-counts.ensures.items
-    ∙ ap (λ (i : ℕ). take i q) c.cells-cells.ensures.value)
+    c.seek.auto.plan c.seek.auto.scratch c.seek.result c.seek.ensures.does c.seek.ensures.memory c.in_ok-copied-in-Ok-true.field-0
+    (c.in_ok-copied-in-Ok-true.ensures ∙ ap (λ (i : ℕ). take i q) c.cells-cells.ensures.value)
     (c.in-Ok-true.is ∙ ap Ok c.in-Ok-true.field-0-test)
 
 pub returns-in-Ok-false : goal.returns-in-Ok-false

@@ -1,27 +1,16 @@
-use Rattle.std.proofs.Common.{◌≡◌, ℕ, List, length, drop, set, refl, ap, ◌∙◌, arith}
-use Rattle.bounds.specs.declared.row.Row.{Row}
+use Rattle.std.proofs.Common.{ℕ, length, drop, refl, ap, ◌∙◌, arith}
 use Rattle.bounds.specs.Boards.{sound, spread}
-use Rattle.bounds.proofs.Places.{low_at}
 use Rattle.settling.proofs.Applied.{applied_narrower}
-use Rattle.search.proofs.Tries.{Node, keeps_same, none_voided, leaf_found, node, fixed_at, lower, fixed_sound, fixed_length, fixed_narrower, raised_narrower, tried_room, try_found, try_none}
+use Rattle.search.proofs.Tries.{Node, keeps_same, none_voided, leaf_found, node, lower, fixed_sound, fixed_length, fixed_narrower, raised_narrower, tried_room, try_found, try_none}
 use Rattle.search.proofs.seek.+search.Given as given
 use Rattle.search.proofs.seek.+search.Goals as goal
-use Rattle.search.proofs.seek.+search.Goals.{In-Some, After-copy_from_slice}
+use Rattle.search.proofs.seek.+search.Goals.{In-Some}
 
 at-cell : (g : given.Over) (t : ℕ) (c : goal.In-Some g t)
     → Node (g.F.Family.meaning c.args.family.now) c.args.level.now c.settle_rows.new.rows c.in-Some.cell
 at-cell g t c =
     node _ (g.F.Family.lawful c.args.family.now) c.args.level.now c.loop-level.level c.settle_rows.new.rows c.in_default.field-0
     c.loop-level.invariant.0 c.loop-level.auto.level c.in_default.ensures c.in-Some.cell c.in-Some.ensures
-
--- the level of the try
-tried-is : (g : given.Over) (t : ℕ) (c : goal.After-copy_from_slice g t) → let a = c.settle_rows.new.rows in let i = c.in-Some.cell in
-    let x = c.copy_from_slice.new.self in
-    set x i (record { low = low_at x i; high = low_at a i }) ≡ fixed_at a i
-tried-is g t c =
-    let a = c.settle_rows.new.rows in
-    let i = c.in-Some.cell in
-    ap (λ (x : List Row). set x i (record { low = low_at x i; high = low_at a i })) c.copy_from_slice.ensures.after
 
 pub loop-level-init : goal.loop-level-init
 loop-level-init g t c = (keeps_same _ _ c.requires.sound, refl)
@@ -46,7 +35,7 @@ split_at_mut-tried-requires g t c =
 pub search-requires : goal.search-requires
 search-requires g t c κs within =
     let d = at-cell g t (goal.at.search-requires g t c).In-Some in
-    let is = tried-is g t (goal.at.search-requires g t c).After-copy_from_slice in
+    let is = c.at_lowest.ensures in
     let n = ap length is ∙ fixed_length _ _ _ _ d in (
       omega (arith, ap spread is, fixed_narrower _ _ _ _ d, c.decreases),
       (
@@ -66,7 +55,7 @@ search-requires g t c κs within =
 
 pub returns-then-search : goal.returns-then-search
 returns-then-search g t c =
-    try_found _ _ _ _ (at-cell g t (goal.at.returns-then-search g t c).In-Some) _ (tried-is g t (goal.at.returns-then-search g t c).After-copy_from_slice)
+    try_found _ _ _ _ (at-cell g t (goal.at.returns-then-search g t c).In-Some) _ c.at_lowest.ensures
     _ _ _ c.loop-level.invariant.1 c.if-search.ensures
 
 pub overflow_add-level : goal.overflow_add-level
@@ -83,5 +72,5 @@ loop-level-smaller g t c =
 pub loop-level-preserved : goal.loop-level-preserved
 loop-level-preserved g t c =
     try_none (g.F.Family.meaning c.args.family.now) _ _ _
-    (at-cell g t (goal.at.loop-level-preserved g t c).In-Some) _ (tried-is g t (goal.at.loop-level-preserved g t c).After-copy_from_slice)
+    (at-cell g t (goal.at.loop-level-preserved g t c).In-Some) _ c.at_lowest.ensures
     _ _ _ c.loop-level.invariant.1 c.if-search.ensures
