@@ -1,6 +1,6 @@
 -- The scans of the entries: what is left of them decides.
-use Rattle.std.proofs.Common.{◌≡◌, ℕ, zero, suc, ◌+◌, ◌-◌, ◌*◌, ◌<◌, ◌≤◌, Bool, true, false, cond, ◌&&◌, eqb, ◌⊎◌, List, ◌∷◌, Some, None, Option, sym, refl, ap, ◌∙◌, inl, inr, arith}
-use Rattle.std.proofs.lemmas.Bool.{eq-eqb, ne_eqb, le-leb, lt-leb, and_left, and_right, and_from}
+use Rattle.std.proofs.Common.{◌≡◌, ℕ, zero, suc, ◌+◌, ◌-◌, ◌*◌, ◌<◌, ◌≤◌, leb, Bool, true, false, cond, ◌&&◌, eqb, ◌⊎◌, List, ◌∷◌, Some, None, Option, sym, refl, ap, ◌∙◌, inl, inr, arith}
+use Rattle.std.proofs.lemmas.Bool.{cond-true, cond-false, eq-eqb, ne_eqb, le-leb, lt-leb, and_left, and_right, and_from}
 use Rattle.records.specs.Forms.{between}
 use Rattle.records.specs.Refusals.{line}
 use Rattle.records.specs.declared.refused.Refused.{Refused}
@@ -60,6 +60,35 @@ misplaced_more f n i size start e all h d from =
     (misplaced size (e.offset + e.size) p (left f n (i + 1))) (Some (line 4 0 (1 + 9 * i)))) (omega arith)
     ∙ ap (λ (x : Entry). misplaced size start (1 + 9 * i) (x ∷ left f n (i + 1))) d
     ∙ sym (ap (misplaced size start (1 + 9 * i)) (left_more f n i h)) ∙ from
+
+-- an entry that is the last, told by its place
+follows_as : (f : List ℕ) (n i end all : ℕ) (last : Bool) → i < n → last ≡ eqb (1 + 9 * i + 9) (1 + 9 * n)
+    → ends (left f n (i + 1)) end all ≡ cond last (eqb end all) (leb end all)
+follows_as f n i end all last h is = at (n - (i + 1)) (refl)
+  where
+    at : (m : ℕ) → n - (i + 1) ≡ m → ends (entries_from m f (1 + 9 * (i + 1))) end all ≡ cond last (eqb end all) (leb end all)
+    at zero e = sym (cond-true last (eqb end all) (leb end all) (is ∙ eq-eqb _ _ (omega arith)))
+    at (suc m) e = sym (cond-false last (eqb end all) (leb end all) (is ∙ ne_eqb _ _ (λ k. omega arith)))
+
+laid_more : (f : List ℕ) (n i size start : ℕ) (e : Entry) (last : Bool) (all : Option Refused) → i < n → e ≡ entry_at f (1 + 9 * i) → last ≡ eqb (1 + 9 * i + 9) (1 + 9 * n)
+    → misplaced size start (1 + 9 * i) (left f n i) ≡ all
+    → cond (eqb e.offset start && cond last (eqb (e.offset + e.size) size) (leb (e.offset + e.size) size))
+    (misplaced size (e.offset + e.size) (1 + 9 * (i + 1)) (left f n (i + 1))) (Some (line 4 0 (1 + 9 * i))) ≡ all
+laid_more f n i size start e last all h d is from =
+    ap (λ (t : Bool). cond (eqb e.offset start && t) (misplaced size (e.offset + e.size) (1 + 9 * (i + 1)) (left f n (i + 1))) (Some (line 4 0 (1 + 9 * i))))
+    (sym (follows_as f n i (e.offset + e.size) size last h is))
+    ∙ misplaced_more f n i size start e all h d from
+
+module _ (f : List ℕ) (n i size start : ℕ) (e : Entry) (last : Bool) (all : Option Refused) (h : i < n) (d : e ≡ entry_at f (1 + 9 * i)) (is : last ≡ eqb (1 + 9 * i + 9) (1 + 9 * n))
+    (from : misplaced size start (1 + 9 * i) (left f n i) ≡ all) where
+  abbrev fitting : Bool
+  fitting = eqb e.offset start && cond last (eqb (e.offset + e.size) size) (leb (e.offset + e.size) size)
+
+  pub laid_on : fitting ≡ true → misplaced size (e.offset + e.size) (1 + 9 * (i + 1)) (left f n (i + 1)) ≡ all
+  laid_on t = sym (cond-true fitting _ _ t) ∙ laid_more f n i size start e last all h d is from
+
+  pub laid_off : fitting ≡ false → all ≡ Some (line 4 0 (1 + 9 * i))
+  laid_off t = sym (laid_more f n i size start e last all h d is from) ∙ cond-false fitting _ _ t
 
 pub place_on : (f : List ℕ) (n i size start : ℕ) (e : Entry) (all : Option Refused) → i < n → e ≡ entry_at f (1 + 9 * i)
     → e.offset ≡ start → e.offset + e.size ≤ size → (i + 1 ≡ n → e.offset + e.size ≡ size)

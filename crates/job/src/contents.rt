@@ -7,7 +7,6 @@ use crate::entries::Entries;
 use crate::entry::ENTRY_BYTES;
 use crate::fault::ContentsFault;
 use crate::file::File;
-use crate::file::reach::MOST_BODIES;
 
 #[derive(Clone, Copy)]
 pub struct Contents<'f> {
@@ -49,7 +48,7 @@ impl<'f> Contents<'f> {
             if !due.contains(&entry.kind) {
                 return Err(ContentsFault::Kind { place });
             }
-            due = entry.kind + 1..=MOST_BODIES;
+            due = entry.later_kinds();
         }
         Ok(())
     }
@@ -62,12 +61,11 @@ impl<'f> Contents<'f> {
         let contents_end = 1 + ENTRY_BYTES * self.count;
         let mut start = usize::from(contents_end);
         for (place, entry) in self.entries() {
-            let end = entry.end();
             let last = place + ENTRY_BYTES == contents_end;
-            if entry.start() != start || end > all || (last && end != all) {
+            if !entry.follows(start, all, last) {
                 return Err(ContentsFault::Layout { place });
             }
-            start = end;
+            start = entry.end();
         }
         Ok(())
     }

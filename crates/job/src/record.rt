@@ -1,5 +1,5 @@
 // A record, by where it begins in its body.
-ghost use Rattle.std.specs.Prelude.{◌≡◌, ◌+◌, ◌<◌, ◌≤◌, length, Some, MatchResult};
+ghost use Rattle.std.specs.Prelude.{◌≡◌, ◌+◌, ◌<◌, ◌≤◌, length, Some, MatchResult, slice_set};
 ghost use Rattle.records.specs.Refusals.{of_record};
 ghost use Rattle.job.specs.Reading.{record_fault};
 ghost use Rattle.job.specs.Walked.{Passes, Passed};
@@ -70,6 +70,19 @@ impl<'f> Record<'f> {
         if !distinct(&named) {
             return Err(RecordFault::Twice { kind, place });
         }
+        Ok(end)
+    }
+
+    // Where it ends, if it has no fault; its place is written into the table.
+    pub(crate) fn pass<K: BodyKind>(
+        self,
+        number: usize,
+        places: &mut [u16; MOST_RULES],
+    ) -> Result<usize, RecordFault>
+        ensures { MatchResult result (λ end. Passed K.BodyKind.form self.entry.span.start self.entry.span.cells self.entry.span.bytes.now number self.entry.at end × (places.new ≡ slice_set places.old number (self.entry.span.start + self.entry.at))) (λ e. (record_fault K.BodyKind.form self.entry.span.start self.entry.span.cells self.entry.span.bytes.now number self.entry.at ≡ Some (of_record e)) × (places.new ≡ places.old)) }
+    {
+        let end = self.check::<K>(number)?;
+        places[number] = self.place();
         Ok(end)
     }
 }

@@ -33,8 +33,7 @@ impl Span<'_> {
         // Kept: each step is as long as its record says, and a record past the table's end is still to be refused.
         'records: loop {
             let record = Record { span: self, at };
-            let end = record.check::<K>(number)?;
-            places[number] = record.place();
+            let end = record.pass::<K>(number, places)?;
             number += 1;
             if end >= self.bytes.len() {
                 return Ok(number);

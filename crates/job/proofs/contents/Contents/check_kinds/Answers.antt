@@ -21,11 +21,12 @@ loop-place-preserved c =
     let (more, place, entry, file, given, count) = c.in-Some.ensures.steps in
     let (new, four, all, same, from) = c.loop-place.invariant in
     let i = c.loop-place.place-iterator.numbers.start in
-    let due : between (range_inclusive_start c.loop-place.due) (range_inclusive_end c.loop-place.due) c.in-Some.entry.kind ≡ c.contains.result = search rules in (
-      c.new-due-in-loop-place.ensures.exhausted,
-      omega (arith, c.new-due-in-loop-place.ensures.end),
+    let due : between (range_inclusive_start c.loop-place.due) (range_inclusive_end c.loop-place.due) c.in-Some.entry.kind ≡ c.contains.result = search rules in
+    let later = c.later_kinds-due.ensures in (
+      later.2,
+      omega (arith, later.1),
       count ∙ all,
       ap (λ f. f.now) file ∙ same,
-      rw (given, c.new-due-in-loop-place.ensures.start, c.new-due-in-loop-place.ensures.end) (kind_on c.args.self.file.bytes.now c.args.self.count i _ _ c.in-Some.entry _ (omega arith)
+      rw (given, later.0, later.1) (kind_on c.args.self.file.bytes.now c.args.self.count i _ _ c.in-Some.entry _ (omega arith)
           (entry ∙ ap (λ f. entry_at f (1 + 9 * i)) same) (due ∙ c.if-not-contains.false) from),
     )
