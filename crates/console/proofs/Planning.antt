@@ -15,6 +15,7 @@ use Rattle.job.specs.Jobs.{job_file, job_found}
 use Rattle.job.specs.Reading.{reading, granted}
 use Rattle.job.specs.Tallies.{row_at}
 use Rattle.boards.specs.Opening.{job_rows, HasRoom}
+use Rattle.run.specs.declared.call.Call.{Call}
 use Rattle.run.specs.declared.call.Call.TheVariants.{Settle, Seek}
 use Rattle.run.specs.Runs.{Leads}
 use Rattle.run.specs.Scripts.{Ran, Logs}
@@ -47,17 +48,18 @@ module _ (f : List ℕ) (j : Job) (on : job_file j ≡ f) (read : reading f ≡ 
         (beside (triples ((are.triples.file ∙ on) i) (are.triples.at i)) (totals ((are.totals.file ∙ on) i) (are.totals.at i)))
 
   module _ (room : Room) (rules : JobFamilies) (are : JobRules (job_file j) (job_found j) rules) where
-    pub planned : (b c : Board) → HasRoom (job_rows j) room.rows room.saved (Ok b) → state b ≡ as_read (job_rows j) → (p q : List ℕ) (s t : List Row) (r : Report)
-        → p ≡ vec_items room.plan → s ≡ vec_items room.scratch → Ran (meant rules) b c p q s t (Settle ∷ Seek ∷ []) (vec_items r.answers) → Left (state c) r.bounds
+    pub planned : (b c : Board) → HasRoom (job_rows j) room.rows room.saved (Ok b) → state b ≡ as_read (job_rows j) → (p q : List ℕ) (s t : List Row) (r : Report) (script : List Call)
+        → p ≡ vec_items room.plan → s ≡ vec_items room.scratch → script ≡ Settle ∷ Seek ∷ [] → Ran (meant rules) b c p q s t script (vec_items r.answers) → Left (state c) r.bounds
         → Planned f (job_found j) room r
-    planned b c has start p q s t r plan scratch ran left = record {
+    planned b c has start p q s t r script plan scratch is ran left = record {
       read = read;
       rows_room = omega (arith, has.0, cells_are);
       trial_room = omega (arith, has.1, cells_are);
       events = ran.events;
       left = state c;
       logs = subst (λ (n : ℕ). Logs n (length (vec_items room.scratch)) (Settle ∷ Seek ∷ []) (vec_items r.answers) ran.events) (ap length plan)
-          (subst (λ (n : ℕ). Logs (length p) n (Settle ∷ Seek ∷ []) (vec_items r.answers) ran.events) (ap length scratch) ran.logs);
+          (subst (λ (n : ℕ). Logs (length p) n (Settle ∷ Seek ∷ []) (vec_items r.answers) ran.events) (ap length scratch)
+          (subst (λ (xs : List Call). Logs (length p) (length s) xs (vec_items r.answers) ran.events) is ran.logs));
       leads = subst (λ (m : Meaning). Leads m (as_read (map (row_at f) (job_found j).cells)) ran.events (state c)) (means rules are)
           (subst (λ (x : State). Leads (meant rules) x ran.events (state c)) (start ∙ ap as_read rows_are) ran.leads);
       bounds_are = left;

@@ -1,5 +1,5 @@
 // What is printed of a job that is planned: its settled bounds and its first plan.
-ghost use Rattle.std.specs.Prelude.{◌≡◌, ◌≤◌, length, IfOk};
+ghost use Rattle.std.specs.Prelude.{◌≡◌, ◌≤◌, [], ◌∷◌, length, IfOk};
 ghost use Rattle.board.specs.Held.{state};
 ghost use Rattle.console.specs.Reports.{Told, Left, no_room};
 
@@ -38,17 +38,23 @@ pub fn plan_job(heap: Global, file: &[u8], room: Room) -> Result<Report, Unplann
     let Ok(mut board) = board_of(&job, rows, saved) else {
         return Err(Unplanned::Refused(room_refused(file)));
     };
-    let script = [Call::Settle, Call::Seek];
     let answers = run(
         heap,
         &mut board,
         &rules_of(&job),
-        &script,
+        &planning(),
         &mut plan,
         &mut scratch,
     )?;
     let bounds = bounds_left(heap, &board)?;
     Ok(Report { answers, bounds })
+}
+
+// What plans a job: a settle tells the bounds, and a seek the plan.
+fn planning() -> [Call; 2]
+    ensures { result ≡ (Call.Settle ∷ (Call.Seek ∷ [])) }
+{
+    [Call::Settle, Call::Seek]
 }
 
 // The refusal of a job that the memory has no room for: line 8, at the file's length.

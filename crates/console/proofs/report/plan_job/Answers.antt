@@ -14,6 +14,6 @@ returns c =
       job_found c.in_ok-job.job,
       planned c.args.file.now c.in_ok-job.job on read c.args.room c.rules_of.result c.rules_of.ensures
           c.in-Ok.board c.run.new.board c.in-Ok.ensures.room c.in-Ok.ensures.opens.1 _ _ _ _
-          (record { answers = c.in_ok-answers.answers; bounds = c.in_ok-bounds.bounds }) (search rules) (search rules)
+          (record { answers = c.in_ok-answers.answers; bounds = c.in_ok-bounds.bounds }) _ (search rules) (search rules) c.planning.ensures
           c.in_ok-answers.ensures.runs c.in_ok-bounds.ensures,
     )
