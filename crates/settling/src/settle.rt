@@ -44,6 +44,7 @@ fn all_pending() -> [bool; MOST_RULES]
 }
 
 // Narrows the rows by the rule: where it is quiet it waits no more, and where it narrows them it wakes what it may have stirred.
+// Kept: the family is asked and the table written; in one struct each clause would name its two parts, and say no less.
 fn apply<F: Family>(
     family: &F,
     rule: usize,
