@@ -15,7 +15,7 @@ use Rattle.settling.specs.declared.settled.Settled.TheVariants.{Settled, Void}
 use Rattle.settling.specs.Plans.{First, Before, NoPlan}
 use Rattle.settling.specs.Settles.{Settles}
 use Rattle.settling.proofs.Applied.{Keeps, applied_keeps}
-use Rattle.search.specs.Seeks.{is_open, opens, fixed_at, Searched}
+use Rattle.search.specs.Seeks.{is_open, opens, fixed_at, raised_at, Searched}
 use Rattle.search.proofs.Leaves.{fixed_plan}
 
 abbrev pub NoneIn : Meaning → List Row → Type 0
@@ -84,10 +84,6 @@ opens_inside (x ∷ a) (y ∷ b) h = rw (opens_cons x a, opens_cons y b) (grind 
 
 level_room : (k n o r : ℕ) → o + 1 ≤ k → k * n ≤ r → o * n + n ≤ r
 level_room k n o r l h = omega (arith, mul-le-mul_right n l, add-mul o 1 n)
-
--- the cell without its lowest count
-abbrev pub raised_at : List Row → ℕ → List Row
-raised_at a c = set a c (record { low = low_at a c + 1; high = high_at a c })
 
 width_at : (a : List Row) (c : ℕ) (r : Row) → c < length a → spread (set a c r) + (high_at a c - low_at a c) ≡ spread a + (r.high - r.low)
 width_at a c r l = omega (arith, sum_by-set (λ (x : Row). x.high - x.low) a c r none_row l)

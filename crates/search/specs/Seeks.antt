@@ -1,5 +1,5 @@
 -- The event that a seek's answer is, and what it says of the memory lent to it.
-use Rattle.std.specs.Prelude.{◌≡◌, ℕ, ◌==◌, nat_lt, not, count_by, Bool, true, false, List, length, take, drop, slice_index_or, slice_set, Ok, Err, Result}
+use Rattle.std.specs.Prelude.{◌≡◌, ℕ, ◌+◌, ◌==◌, nat_lt, not, count_by, Bool, true, false, List, length, take, drop, slice_index_or, slice_set, Ok, Err, Result}
 use Rattle.bounds.specs.declared.row.Row.{Row}
 use Rattle.bounds.specs.Boards.{Fills, none_row}
 use Rattle.bounds.specs.Laws.{Meaning}
@@ -30,9 +30,12 @@ is_open r = not (r.low == r.high)
 abbrev pub opens : List Row → ℕ
 opens = count_by (λ r. nat_lt r.low r.high)
 
--- the rows with a cell at its lowest count
+-- the rows with a cell at its lowest count, and without it
 abbrev pub fixed_at : List Row → ℕ → List Row
 fixed_at a c = let low = (slice_index_or a c none_row).low in slice_set a c (record { low = low; high = low })
+
+abbrev pub raised_at : List Row → ℕ → List Row
+raised_at a c = let r = slice_index_or a c none_row in slice_set a c (record { low = r.low + 1; high = r.high })
 
 -- whether there is a plan in the rows: the first is then written at the front of the counts
 abbrev pub Searched : Meaning → List Row → List ℕ → List ℕ → Bool → Type 0

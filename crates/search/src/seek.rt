@@ -1,9 +1,9 @@
 // The first plan in a board, by a search that settles at every step.
-ghost use Rattle.std.specs.Prelude.{◌≡◌, ◌+◌, ◌*◌, ◌<◌, ◌≤◌, true, length, take, drop, position};
-ghost use Rattle.bounds.specs.Boards.{sound, lows};
+ghost use Rattle.std.specs.Prelude.{◌≡◌, ◌+◌, ◌*◌, ◌<◌, ◌≤◌, true, length, take, drop, position, slice_index_or};
+ghost use Rattle.bounds.specs.Boards.{sound, lows, none_row};
 ghost use Rattle.board.specs.Calls.{Does};
 ghost use Rattle.board.specs.Held.{state};
-ghost use Rattle.search.specs.Seeks.{event_of_seek, Memory, is_open, opens, fixed_at, Searched};
+ghost use Rattle.search.specs.Seeks.{event_of_seek, Memory, is_open, opens, fixed_at, raised_at, Searched};
 
 use board::board::Board;
 use board::refusal::Refusal;
@@ -57,23 +57,25 @@ fn search<F: Family>(family: &F, level: &mut [Row], plan: &mut [u16], rest: &mut
             return true;
         };
         let (tried, deeper) = rest.split_at_mut(cells);
-        at_lowest(level, cell, tried);
-        let row = level[cell];
+        branch(level, cell, tried);
         if search(family, tried, plan, deeper) {
             return true;
         }
-        level[cell].low = row.low + 1;
     }
 }
 
-// Copies the level, but for a cell that has its lowest count alone there.
-fn at_lowest(level: &[Row], cell: usize, tried: &mut [Row])
-    requires cell { cell < length level.now }
-    requires room { length tried.old ≡ length level.now }
-    ensures { tried.new ≡ fixed_at level.now cell }
+// Branches on an open cell: its lowest count is to be tried in a level of its own, and the others are left.
+fn branch(level: &mut [Row], cell: usize, tried: &mut [Row])
+    requires cell { cell < length level.old }
+    requires open { (slice_index_or level.old cell none_row).low < (slice_index_or level.old cell none_row).high }
+    requires room { length tried.old ≡ length level.old }
+    ensures tried { tried.new ≡ fixed_at level.old cell }
+    ensures left { level.new ≡ raised_at level.old cell }
 {
     tried.copy_from_slice(level);
-    tried[cell].high = level[cell].low;
+    let row = level[cell];
+    tried[cell].high = row.low;
+    level[cell].low = row.low + 1;
 }
 
 fn first_open(rows: &[Row]) -> Option<usize>

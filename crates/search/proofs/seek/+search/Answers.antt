@@ -35,7 +35,7 @@ split_at_mut-tried-requires g t c =
 pub search-requires : goal.search-requires
 search-requires g t c κs within =
     let d = at-cell g t (goal.at.search-requires g t c).In-Some in
-    let is = c.at_lowest.ensures in
+    let is = c.branch-level.ensures.tried in
     let n = ap length is ∙ fixed_length _ _ _ _ d in (
       omega (arith, ap spread is, fixed_narrower _ _ _ _ d, c.decreases),
       (
@@ -55,22 +55,23 @@ search-requires g t c κs within =
 
 pub returns-then-search : goal.returns-then-search
 returns-then-search g t c =
-    try_found _ _ _ _ (at-cell g t (goal.at.returns-then-search g t c).In-Some) _ c.at_lowest.ensures
+    try_found _ _ _ _ (at-cell g t (goal.at.returns-then-search g t c).In-Some) _ c.branch-level.ensures.tried
     _ _ _ c.loop-level.invariant.1 c.if-search.ensures
 
-pub overflow_add-level : goal.overflow_add-level
-overflow_add-level g t c = let o = lower _ _ _ _ (at-cell g t (goal.at.overflow_add-level g t c).In-Some) in omega arith
+pub branch-level-requires-clause-open : goal.branch-level-requires-clause-open
+branch-level-requires-clause-open g t c = lower _ _ _ _ (at-cell g t (goal.at.branch-level-requires-clause-open g t c).In-Some)
 
 pub loop-level-smaller : goal.loop-level-smaller
 loop-level-smaller g t c =
     omega (
       arith,
+      ap spread c.branch-level.ensures.left,
       raised_narrower _ _ _ _ (at-cell g t (goal.at.loop-level-smaller g t c).In-Some),
       applied_narrower _ (g.F.Family.lawful c.args.family.now) c.loop-level.invariant.0.still_sound c.in_default.ensures.0,
     )
 
 pub loop-level-preserved : goal.loop-level-preserved
-loop-level-preserved g t c =
-    try_none (g.F.Family.meaning c.args.family.now) _ _ _
-    (at-cell g t (goal.at.loop-level-preserved g t c).In-Some) _ c.at_lowest.ensures
-    _ _ _ c.loop-level.invariant.1 c.if-search.ensures
+loop-level-preserved g t c = rw c.branch-level.ensures.left
+    (try_none (g.F.Family.meaning c.args.family.now) _ _ _
+    (at-cell g t (goal.at.loop-level-preserved g t c).In-Some) _ c.branch-level.ensures.tried
+    _ _ _ c.loop-level.invariant.1 c.if-search.ensures)
