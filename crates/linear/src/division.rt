@@ -1,5 +1,6 @@
 // Signed division, rounded up.
-ghost use Rattle.std.specs.Prelude.{◌<◌, pos};
+ghost use Rattle.std.specs.Prelude.{◌≡◌, ◌<◌, true, pos, ◌+ℤ◌, ◌<ℤ◌, if◌then◌else◌};
+ghost use lib.Signed.{lt_z};
 ghost use Rattle.linear.specs.Division.{RoundedUp};
 
 // The least integer that times the divisor is at least the dividend, which may be below zero.
@@ -8,12 +9,15 @@ pub fn div_up(dividend: i64, divisor: u32) -> i64
     ensures { RoundedUp dividend (pos divisor) result }
 {
     let divisor = i64::from(divisor);
-    let quotient = dividend / divisor;
-    if dividend % divisor > 0 {
-        quotient + 1
-    } else {
-        quotient
-    }
+    rounded(dividend / divisor, dividend % divisor)
+}
+
+// A quotient toward zero, rounded up: one more where something above zero is left.
+fn rounded(quotient: i64, rest: i64) -> i64
+    requires { lt_z (pos 0) rest ≡ true → quotient <ℤ pos 9223372036854775807 }
+    ensures { result ≡ (if lt_z (pos 0) rest then quotient +ℤ pos 1 else quotient) }
+{
+    if rest > 0 { quotient + 1 } else { quotient }
 }
 
 #[cfg(test)]

@@ -1,5 +1,6 @@
 // The bounds that a linear constraint leaves its cells.
-ghost use Rattle.std.specs.Prelude.{◌≡◌, ◌+◌, ◌-◌, ◌*◌, ◌^◌, ◌<◌, ◌≤◌, ◌⊎◌, [], MatchOption};
+ghost use Rattle.std.specs.Prelude.{◌≡◌, ◌+◌, ◌-◌, ◌*◌, ◌^◌, ◌<◌, ◌≤◌, ◌⊎◌, [], pos, if◌then◌else◌, MatchOption};
+ghost use lib.Signed.{lt_z};
 ghost use Rattle.linear.specs.Linear.{over, limits, bounded};
 
 use crate::division::div_up;
@@ -31,7 +32,14 @@ fn needed(floor: u64, others: u64, weight: u32) -> u64
     ensures { result ≡ over (floor - others) weight }
 {
     // Kept: a rule of the project: a dividend below zero is divided by a function of its own, over signed numbers.
-    div_up(floor as i64 - others as i64, weight).max(0) as u64
+    or_none(div_up(floor as i64 - others as i64, weight))
+}
+
+// So many copies, and none in place of a number below zero.
+fn or_none(copies: i64) -> u64
+    ensures { pos result ≡ (if lt_z copies (pos 0) then pos 0 else copies) }
+{
+    copies.max(0) as u64
 }
 
 impl Limits {

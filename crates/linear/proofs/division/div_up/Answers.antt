@@ -1,6 +1,7 @@
-use Rattle.std.proofs.Common.{◌≡◌, ℕ, ◌/◌, ◌^◌, ◌<◌, ◌≤◌, true, false, ℤ, pos, negsuc, ◌+ℤ◌, ◌≤ℤ◌, ◌<ℤ◌, sym, ap, ◌∙◌, subst, ap₂, mul-le-mul_left, div-le_self, div-mul-le_self, arith, w64, SFits, to_z, of_z}
+use Rattle.std.proofs.Common.{◌≡◌, ℕ, ◌/◌, ◌^◌, ◌<◌, ◌≤◌, true, false, cond, ℤ, pos, negsuc, ◌+ℤ◌, ◌≤ℤ◌, ◌<ℤ◌, sym, ap, ◌∙◌, subst, ap₂, mul-le-mul_left, div-le_self, div-mul-le_self, arith, w64, SFits, to_z, of_z}
 use borrow.Author.Differences.{ints, up, down}
 use lib.Signed.{quot_z, rem_z, lt_z}
+use Rattle.std.proofs.lemmas.Bool.{cond_both}
 use Rattle.std.proofs.lemmas.Int.{to_z-of_z}
 use Rattle.std.proofs.lemmas.Nat.{mod_below}
 use Rattle.linear.specs.Division.{RoundedUp}
@@ -32,28 +33,27 @@ module _ (a e : ℤ) (d : ℕ) (fits : SFits w64 a) (small : d < 2 ^ 32) (some :
   remainder : read (rem_z (read a) (read e)) ≡ rem_z a (pos d)
   remainder = ap read (ap₂ rem_z (to_z-of_z w64 a fits) divisor) ∙ to_z-of_z w64 _ (omega (arith, ints))
 
-  sum : pos 0 <ℤ rem_z a (pos d) → SFits w64 (read (quot_z (read a) (read e)) +ℤ pos 1)
-  sum r = subst (λ (z : ℤ). SFits w64 (z +ℤ pos 1)) (sym quotient) (more-fits a d fits some r)
-
   positive : lt_z (pos 0) (read (rem_z (read a) (read e))) ≡ true → pos 0 <ℤ rem_z a (pos d)
   positive t = let e = remainder in omega (arith, ints)
 
   rest-none : lt_z (pos 0) (read (rem_z (read a) (read e))) ≡ false → rem_z a (pos d) ≤ℤ pos 0
   rest-none t = let e = remainder in omega (arith, ints)
 
-  one_more : lt_z (pos 0) (read (rem_z (read a) (read e))) ≡ true → RoundedUp a (pos d) (read (read (quot_z (read a) (read e)) +ℤ pos 1))
-  one_more t = let r = positive t in
-      subst (λ (z : ℤ). RoundedUp a (pos d) z) (sym (to_z-of_z w64 _ (sum r) ∙ ap (λ (z : ℤ). z +ℤ pos 1) quotient)) (rounded_over a d some r)
+  fits-more : lt_z (pos 0) (read (rem_z (read a) (read e))) ≡ true → read (quot_z (read a) (read e)) <ℤ pos 9223372036854775807
+  fits-more t = let r = positive t in let q = quotient in let m = more-fits a d fits some r in rw q (omega (arith, ints, m))
 
-  as_is : lt_z (pos 0) (read (rem_z (read a) (read e))) ≡ false → RoundedUp a (pos d) (read (quot_z (read a) (read e)))
-  as_is t = subst (λ (z : ℤ). RoundedUp a (pos d) z) (sym quotient) (rounded_as_is a d some (rest-none t))
+  rounded-up : (z : ℤ) → z ≡ cond (lt_z (pos 0) (read (rem_z (read a) (read e)))) (read (quot_z (read a) (read e)) +ℤ pos 1) (read (quot_z (read a) (read e))) → RoundedUp a (pos d) (read z)
+  rounded-up z = cond_both (lt_z (pos 0) (read (rem_z (read a) (read e)))) _ _ (λ (y : ℤ). z ≡ y → RoundedUp a (pos d) (read z))
+      (λ t k. let r = positive t in let up = k ∙ ap (λ (y : ℤ). y +ℤ pos 1) quotient in
+      subst (λ (y : ℤ). RoundedUp a (pos d) y) (sym (ap read up ∙ to_z-of_z w64 _ (more-fits a d fits some r))) (rounded_over a d some r))
+      (λ t k. subst (λ (y : ℤ). RoundedUp a (pos d) y) (sym (ap read (k ∙ quotient) ∙ to_z-of_z w64 _ quotient_fits)) (rounded_as_is a d some (rest-none t)))
 
-pub returns-then-dividend-divisor-gt0 : goal.returns-then-dividend-divisor-gt0
-returns-then-dividend-divisor-gt0 c =
+pub rounded-requires : goal.rounded-requires
+rounded-requires c =
     let at : c.args.divisor < 2 ^ 32 = omega arith in
-    one_more _ _ _ c.ranges.dividend at c.requires c.from-divisor.ensures c.if-dividend-divisor-gt0.true
+    fits-more _ _ _ c.ranges.dividend at c.requires c.from-divisor.ensures
 
-pub returns-else-dividend-divisor-gt0 : goal.returns-else-dividend-divisor-gt0
-returns-else-dividend-divisor-gt0 c =
+pub returns : goal.returns
+returns c =
     let at : c.args.divisor < 2 ^ 32 = omega arith in
-    as_is _ _ _ c.ranges.dividend at c.requires c.from-divisor.ensures c.if-dividend-divisor-gt0.false
+    rounded-up _ _ _ c.ranges.dividend at c.requires c.from-divisor.ensures _ c.rounded.ensures
