@@ -16,7 +16,7 @@ pub trait Scope {
         ensures { result ≡ slice_index (scope self.now) i };
 }
 
-// The indices of the cells from one on.
+// The indices of the cells from an index on.
 fn indices<S: Scope>(named: &S, from: usize) -> Range<usize>
     ensures { (result.start ≡ from) × (result.end ≡ length (S.scope named.now)) }
 {
@@ -24,7 +24,7 @@ fn indices<S: Scope>(named: &S, from: usize) -> Range<usize>
 }
 
 // Whether the cell at an index is one of so many cells.
-fn lies<S: Scope>(named: &S, i: usize, cells: usize) -> bool
+fn cell_fits<S: Scope>(named: &S, i: usize, cells: usize) -> bool
     requires { i < length (S.scope named.now) }
     ensures { result ≡ nat_lt (slice_index (S.scope named.now) i) cells }
 {
@@ -35,7 +35,7 @@ fn lies<S: Scope>(named: &S, i: usize, cells: usize) -> bool
 pub fn fits<S: Scope>(named: &S, cells: usize) -> bool
     ensures { result ≡ fits (S.scope named.now) cells }
 {
-    indices(named, 0).all(|i| lies(named, i, cells))
+    indices(named, 0).all(|i| cell_fits(named, i, cells))
 }
 
 // Whether the cell is named from an index on.

@@ -45,7 +45,7 @@ impl Entry {
     }
 
     // The kinds that may come after it.
-    pub(crate) fn later_kinds(self) -> RangeInclusive<u8>
+    pub fn later_kinds(self) -> RangeInclusive<u8>
         requires { self.kind ≤ 4 }
         ensures { (range_inclusive_start result ≡ self.kind + 1) × (range_inclusive_end result ≡ 4) × (range_inclusive_exhausted result ≡ false) }
     {
@@ -53,10 +53,10 @@ impl Entry {
     }
 
     // Whether its body begins at `start` and ends within a file of so many bytes, at its end if it is the last.
-    pub(crate) fn follows(self, start: usize, all: usize, last: bool) -> bool
+    pub fn follows(self, start: usize, all: usize, last: bool) -> bool
         ensures { result ≡ (self.offset == start && (if last then self.offset + self.size == all else nat_le (self.offset + self.size) all)) }
     {
         let end = self.end();
-        self.start() == start && if last { end == all } else { end <= all }
+        self.start() == start && end <= all && (!last || end == all)
     }
 }

@@ -74,7 +74,7 @@ impl<'f> Record<'f> {
     }
 
     // Where it ends, if it has no fault; its place is written into the table.
-    pub(crate) fn pass<K: BodyKind>(
+    pub fn pass<K: BodyKind>(
         self,
         number: usize,
         places: &mut [u16; MOST_RULES],

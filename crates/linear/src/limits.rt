@@ -32,11 +32,11 @@ fn needed(floor: u64, others: u64, weight: u32) -> u64
     ensures { result ≡ over (floor - others) weight }
 {
     // Kept: a rule of the project: a dividend below zero is divided by a function of its own, over signed numbers.
-    or_none(div_up(floor as i64 - others as i64, weight))
+    not_below_zero(div_up(floor as i64 - others as i64, weight))
 }
 
-// So many copies, and none in place of a number below zero.
-fn or_none(copies: i64) -> u64
+// Kept: that the cast keeps the number is proved, where a try_from would add an error that cannot be.
+fn not_below_zero(copies: i64) -> u64
     ensures { pos result ≡ (if lt_z copies (pos 0) then pos 0 else copies) }
 {
     copies.max(0) as u64

@@ -29,19 +29,12 @@ pub fn step<F: Family>(
     match call {
         Call::Tighten { cell, low, high } => Ok(board.tighten(cell, low, high).into()),
         Call::Open => Ok(board.open().into()),
-        Call::Keep(serial) => Ok(board.keep(slip_of(serial)).into()),
-        Call::Drop(serial) => Ok(board.drop(slip_of(serial)).into()),
+        Call::Keep(serial) => Ok(board.keep(Slip::of(serial)).into()),
+        Call::Drop(serial) => Ok(board.drop(Slip::of(serial)).into()),
         Call::Ask(cell) => Ok(asked(cell, board.ask(cell))),
         Call::Settle => Ok(board.settle(family).into()),
         Call::Seek => sought(heap, board, family, plan, scratch),
     }
-}
-
-// The slip of the trial that a script names by its serial.
-fn slip_of(serial: u32) -> Slip
-    ensures { result.serial ≡ serial }
-{
-    Slip::of(serial)
 }
 
 fn sought<F: Family>(
@@ -63,7 +56,7 @@ fn sought<F: Family>(
     }
 }
 
-// The plan at the front of the plan memory, copied to memory that has room for it.
+// The plan at the front of the plan memory, copied to memory that has room for it: that never fails.
 fn copied(mut counts: Vec<u16>, plan: &[u16], cells: usize) -> Result<Vec<u16>, AllocError>
     requires none { counts.items ≡ [] }
     requires room { cells ≤ vec_capacity counts }

@@ -9,7 +9,7 @@ use bounds::row::Row;
 use records::triples::TripleKind;
 use rules::arrays::if_sound;
 
-// The least of one part of the whole: all of the whole's least, where the other part cannot reach it.
+// The low of one of two rows, whose greater lies in `whole`: the low of that where the other cannot reach it.
 fn least(part: Row, other: Row, whole: Row) -> u16
     ensures { result ≡ (if nat_lt other.high whole.low then whole.low else part.low) }
 {
@@ -34,7 +34,7 @@ pub fn union(rows: [Row; 3]) -> Option<[Row; 3]>
     ])
 }
 
-// The most of one part: all of the whole's most, where the other part stays above it.
+// The high of one of two rows, whose lesser lies in `whole`: the high of that where the other stays above it.
 fn most(part: Row, other: Row, whole: Row) -> u16
     ensures { result ≡ (if nat_lt whole.high other.low then whole.high else part.high) }
 {

@@ -12,5 +12,5 @@ cut n q = cond_both (lt_z q (pos 0)) (pos 0) q (λ (z : ℤ). pos n ≡ z → n 
 pub returns : goal.returns
 returns c =
     let same = rounded_difference c.args.floor c.args.others c.args.weight _ c.div_up.result c.requires.weight (omega (arith, ints)) c.div_up.ensures in
-    let none = cut c.or_none.result (to_z w64 (of_z w64 c.div_up.result)) c.or_none.ensures in
+    let none = cut c.not_below_zero.result (to_z w64 (of_z w64 c.div_up.result)) c.not_below_zero.ensures in
     omega (arith, ints, clamps)

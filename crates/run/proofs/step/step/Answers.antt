@@ -16,14 +16,14 @@ returns-in-Open g c =
 pub returns-in-Keep : goal.returns-in-Keep
 returns-in-Keep g c =
     let e = c.keep.ensures in let m = g.F.Family.meaning c.args.family.now in
-    made_keep m (g.F.Family.lawful c.args.family.now) _ _ _ _ _ _ _ c.slip_of.result c.keep.result
-    c.in-Keep.is c.slip_of.ensures c.into-in-Keep.ensures (e.does m) (stays_saved _ _ e.memory.frame e.memory.saved)
+    made_keep m (g.F.Family.lawful c.args.family.now) _ _ _ _ _ _ _ c.of.result c.keep.result
+    c.in-Keep.is c.of.ensures c.into-in-Keep.ensures (e.does m) (stays_saved _ _ e.memory.frame e.memory.saved)
 
 pub returns-in-Drop : goal.returns-in-Drop
 returns-in-Drop g c =
     let e = c.drop.ensures in let m = g.F.Family.meaning c.args.family.now in
-    made_drop m (g.F.Family.lawful c.args.family.now) _ _ _ _ _ _ _ c.slip_of-in-Drop.result c.drop.result
-    c.in-Drop.is c.slip_of-in-Drop.ensures c.into-in-Drop.ensures (e.does m) (stays_saved _ _ e.memory.frame e.memory.saved)
+    made_drop m (g.F.Family.lawful c.args.family.now) _ _ _ _ _ _ _ c.of-in-Drop.result c.drop.result
+    c.in-Drop.is c.of-in-Drop.ensures c.into-in-Drop.ensures (e.does m) (stays_saved _ _ e.memory.frame e.memory.saved)
 
 pub returns-in-Ask : goal.returns-in-Ask
 returns-in-Ask g c =
