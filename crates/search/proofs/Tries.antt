@@ -7,12 +7,16 @@ use Rattle.std.proofs.lemmas.List.Sums.{sum_by-cons, sum_by-set, fails_before_fi
 use Rattle.std.proofs.lemmas.List.Quantifiers.{position-Some}
 use Rattle.std.specs.List.{position_or_len}
 use Rattle.bounds.specs.declared.row.Row.{Row}
-use Rattle.bounds.specs.Boards.{Board, sound, Inside, Fills, Fixed, Lies, spread, lows, none_row}
+use Rattle.bounds.specs.Boards.{Board, cells, sound, Inside, Fills, Fixed, Lies, spread, lows, none_row}
 use Rattle.bounds.specs.Laws.{Meaning, FiveLaws}
 use Rattle.bounds.proofs.Places.{low_at, high_at, same_row, sound_at, fills_at, fills_inside}
 use Rattle.bounds.proofs.Rows.{fills_lows, inside_all, cut, fills_cut, cut_fills, sound_set, spread_inside}
 use Rattle.settling.specs.declared.settled.Settled.TheVariants.{Settled, Void}
-use Rattle.settling.specs.Plans.{First, Before, NoPlan}
+use Rattle.settling.specs.declared.watchers.Watchers.{Watchers}
+use Rattle.settling.specs.Asleep.{Asleep}
+use Rattle.settling.specs.Watching.{Watching, watching}
+use Rattle.settling.specs.Plans.{First, Before, NoPlan, Still}
+use Rattle.settling.proofs.Sleeps.{stirs_listed}
 use Rattle.settling.specs.Settles.{Settles}
 use Rattle.settling.proofs.Applied.{Keeps, applied_keeps}
 use Rattle.search.specs.Seeks.{is_open, opens, fixed_at, raised_at, Searched}
@@ -32,6 +36,7 @@ pub record Node (m : Meaning) (b a : List Row) (c : ℕ) : Type 0 where
   pub here : c < length a
   pub apart : low_at a c ≢ high_at a c
   pub below : FixedBelow a c
+  pub quiet : Still m (cells a)
 
 abbrev pub FirstIn : Meaning → List Row → List ℕ → Type 0
 FirstIn m a p = First m (λ q. Fills q a) p
@@ -144,6 +149,7 @@ module _ (m : Meaning) (laws : FiveLaws m) (b l a : List Row) (n : ℕ) (k : Kee
         here = at.0;
         apart = is_apart (get_or a c none_row) at.1;
         below = λ i lt. is_fixed (get_or a i none_row) (at.2 i lt);
+        quiet = quiet;
       }
 
 module _ (m : Meaning) (b a : List Row) (c : ℕ) (d : Node m b a c) where
@@ -161,6 +167,15 @@ module _ (m : Meaning) (b a : List Row) (c : ℕ) (d : Node m b a c) where
 
   pub raised_narrower : spread (raised_at a c) < spread a
   raised_narrower = raised_spread a c d.here lower
+
+  -- only the rules that are listed with the cell may narrow the try, and what is left
+  module _ (laws : FiveLaws m) (w : Watchers) (at : Watching m (length b) w) where
+    pub fixed_asleep : Asleep m (fixed_at a c) (watching w c)
+    fixed_asleep = stirs_listed m laws a c _ w (length b) at d.kept.still_sound d.len d.quiet (omega (arith, d.here, d.len)) fixed_sound
+
+    pub raised_asleep : Asleep m (raised_at a c) (watching w c)
+    raised_asleep = let o = lower in
+        stirs_listed m laws a c _ w (length b) at d.kept.still_sound d.len d.quiet (omega (arith, d.here, d.len)) (sound_set a c _ d.kept.still_sound (omega arith))
 
   -- the rest has room for the try and for what it needs in turn
   pub tried_room : (r : ℕ) → opens b * length b ≤ r → opens (fixed_at a c) * length b + length b ≤ r

@@ -3,14 +3,18 @@ ghost use Rattle.std.specs.Prelude.{◌≡◌, ◌+◌, ◌*◌, ◌<◌, ◌≤
 ghost use Rattle.bounds.specs.Boards.{sound, lows, none_row};
 ghost use Rattle.board.specs.Calls.{Does};
 ghost use Rattle.board.specs.Held.{state};
+ghost use Rattle.settling.specs.Asleep.{Asleep};
+ghost use Rattle.settling.specs.Watching.{Watching};
 ghost use Rattle.search.specs.Seeks.{event_of_seek, Memory, is_open, opens, fixed_at, raised_at, Searched};
 
 use board::board::Board;
 use board::refusal::Refusal;
 use bounds::row::Row;
 use rule_families::family::Family;
-use settling::settle::settle_rows;
+use rule_sets::rule_set::RuleSet;
+use settling::settle::settle_from;
 use settling::settled::Settled;
+use settling::watchers::Watchers;
 
 // Whether the board holds a plan: the first is then written at the front of the plan memory.
 // Scratch holds the board's rows and a level for each of its cells.
@@ -35,21 +39,32 @@ pub fn seek<F: Family>(
     }
     let (level, rest) = scratch.split_at_mut(cells);
     level.copy_from_slice(rows);
-    Ok(search(family, level, plan, rest))
+    let watchers = Watchers::of(family, cells);
+    let pending = RuleSet::below(family.size());
+    Ok(search(family, &watchers, pending, level, plan, rest))
 }
 
-// Each try has a level of its own, at the front of the rest.
+// Each try has a level of its own, at the front of the rest. After a settle only the rules that touch the cell branched on can narrow.
 // Kept: a plan that a try returned as a borrow could not be lent to the next try of the loop.
-fn search<F: Family>(family: &F, level: &mut [Row], plan: &mut [u16], rest: &mut [Row]) -> bool
+fn search<F: Family>(
+    family: &F,
+    watchers: &Watchers,
+    mut pending: RuleSet,
+    level: &mut [Row],
+    plan: &mut [u16],
+    rest: &mut [Row],
+) -> bool
     requires sound { sound level.old ≡ true }
     requires few { length level.old ≤ 1024 }
     requires counts { length level.old ≤ length plan.old }
     requires room { opens level.old * length level.old ≤ length rest.old }
+    requires watching { Watching (F.meaning family.now) (length level.old) watchers.now }
+    requires asleep { Asleep (F.meaning family.now) level.old pending }
     ensures { Searched (F.meaning family.now) level.old plan.old plan.new result }
 {
     let cells = level.len();
     loop {
-        if let Settled::Void(_) = settle_rows(family, level) {
+        if let Settled::Void(_) = settle_from(family, watchers, pending, level) {
             return false;
         }
         let Some(cell) = first_open(level) else {
@@ -58,7 +73,8 @@ fn search<F: Family>(family: &F, level: &mut [Row], plan: &mut [u16], rest: &mut
         };
         let (tried, deeper) = rest.split_at_mut(cells);
         branch(level, cell, tried);
-        if search(family, tried, plan, deeper) {
+        pending = watchers.by_cell[cell];
+        if search(family, watchers, pending, tried, plan, deeper) {
             return true;
         }
     }

@@ -1,4 +1,6 @@
 pub mod Holds
 pub mod Applied
+pub mod Lists
 pub mod Sleeps
+pub mod Wakes
 pub mod Scans

@@ -1,35 +1,86 @@
 -- How far the scan over the pending rules has come.
-use Rattle.std.proofs.Common.{◌≡◌, ℕ, zero, suc, Bool, true, false, List, length, get_or, set, replicate, sym, refl, ap, ◌∙◌, inl, inr}
-use Rattle.std.proofs.lemmas.Bool.{both_ways, cases_eq}
-use Rattle.std.proofs.lemmas.List.{length-replicate, get_or-set_other}
+use Rattle.std.proofs.Common.{◌≡◌, ℕ, ◌+◌, ◌<◌, ◌≤◌, true, ◌≢◌, List, length, Some, None, sym, refl, lt-ltb, ap, ◌∙◌, subst, inl, inr, arith}
+use Rattle.std.proofs.lemmas.Bool.{cases_eq, cases_lt}
 use Rattle.bounds.specs.declared.row.Row.{Row}
-use Rattle.bounds.specs.Boards.{cells}
-use Rattle.bounds.specs.Laws.{Meaning}
-use Rattle.settling.specs.Asleep.{Asleep}
-use Rattle.settling.specs.Plans.{Applies, stay}
+use Rattle.bounds.specs.Boards.{cells, sound, Real, spread}
+use Rattle.bounds.specs.Laws.{Meaning, FiveLaws, Rule}
+use Rattle.bounds.proofs.Rows.{spread_pos, cells_void, cells_same}
+use Rattle.rule_families.specs.declared.change.Change.TheVariants.{Quiet, Narrowed, Void as Voided}
+use Rattle.rule_families.specs.Narrows.{Narrows}
+use Rattle.rule_sets.specs.declared.rule_set.RuleSet.{RuleSet}
+use Rattle.rule_sets.specs.Members.{Removed, Lowest as LowestOf}
+use Rattle.settling.specs.declared.settled.Settled.TheVariants.{Settled, Void}
+use Rattle.settling.specs.declared.watchers.Watchers.{Watchers}
+use Rattle.settling.specs.Asleep.{Asleep, Woken}
+use Rattle.settling.specs.Plans.{Applies, more}
+use Rattle.settling.specs.Settles.{Settles}
+use Rattle.settling.specs.Watching.{Watching}
+use Rattle.settling.proofs.Applied.{QuietBelow, lowest_narrows, lowest_voids, applied_keeps, applied_narrower}
+use Rattle.settling.proofs.Sleeps.{both, stays_quiet}
 
--- n applications led from the rows a to b, and a rule that is not pending is quiet there
-pub record Scanned (m : Meaning) (a b : List Row) (n : ℕ) (pending : List Bool) : Type 0 where
+-- n applications led from the rows a to b, which are as they were when rules were last woken, and a rule that is not pending is quiet there
+pub record Scanned (m : Meaning) (a b : List Row) (n : ℕ) (pending : RuleSet) (before : List Row) : Type 0 where
   pub applied : Applies m a b n
   pub asleep : Asleep m b pending
-  pub long : length pending ≡ 4096
+  pub seen : before ≡ b
+  pub long : length b ≡ length a
 
-all_pending : (n q : ℕ) → get_or (replicate n true) q true ≡ true
-all_pending zero q = refl
-all_pending (suc n) zero = refl
-all_pending (suc n) (suc q) = all_pending n q
+module _ (m : Meaning) (laws : FiveLaws m) (a b : List Row) (n : ℕ) (p : RuleSet) (f : List Row) (s : sound a ≡ true) (h : Scanned m a b n p f) where
+  pub scanned_sound : sound b ≡ true
+  scanned_sound = (applied_keeps m laws s h.applied).still_sound
 
--- every rule is pending at first
-pub scan_start : (m : Meaning) (a : List Row) (p : List Bool) → p ≡ replicate 4096 true → Scanned m a a 0 p
-scan_start m a p e = record {
-  applied = stay;
-  asleep = λ q l n. absurd (both_ways _ n (ap (λ ps. get_or ps q true) e ∙ all_pending 4096 q));
-  long = ap length e ∙ length-replicate 4096 true;
-}
+  -- an application narrows
+  pub scanned_narrower : n < spread a
+  scanned_narrower = omega (arith, applied_narrower m laws s h.applied, spread_pos b)
 
--- one rule less is pending, since it is quiet
-pub asleep_more : (m : Meaning) (a : List Row) (p : List Bool) (r : ℕ) → (m.rule r).narrowed a ≡ cells a → Asleep m a p → Asleep m a (set p r false)
-asleep_more m a p r quiet h q listed e = elim (cases_eq q r) [
-  | inl s ↦ ap (λ i. (m.rule i).narrowed a) s ∙ quiet
-  | inr n ↦ h q listed (sym (get_or-set_other p r q false true n) ∙ e)
-]
+  module _ (w : Watchers) (at : Watching m (length a) w) where
+    is : Watching m (length b) w
+    is = subst (λ (k : ℕ). Watching m k w) (sym h.long) at
+
+    -- nothing is pending
+    pub scan_ends : LowestOf p w.words None → Settles m a b (Settled n)
+    scan_ends none = (h.applied, λ q l. h.asleep q l (none q (omega (arith, is.room))), scanned_sound, h.long)
+
+    module _ (r : ℕ) (low : LowestOf p w.words (Some r)) where
+      below : r ≤ m.size → QuietBelow m b r
+      below l q less = h.asleep q (omega arith) (low.2 q less)
+
+      -- a rule past the last narrows nothing
+      listed : (m.rule r).narrowed b ≢ cells b → r < m.size
+      listed moves = elim (cases_lt r m.size) [
+        | inl l ↦ l
+        | inr k ↦ absurd (moves (ap (λ (u : Rule). u.narrowed b) (laws.beyond r k)))
+      ]
+
+      pub scan_voids : (c : List Row) → Narrows (m.rule r).narrowed b c Voided → Settles m a c (Void (n + 1))
+      scan_voids c (voids, same) =
+          let l = listed (λ e. cells_void b (sym e ∙ voids)) in
+          subst (λ (x : List Row). Settles m a x (Void (n + 1))) (sym same)
+          ((n, r, refl, h.applied, lowest_voids m b r l (below (omega arith)) voids, voids), scanned_sound, h.long)
+
+      module _ (c : List Row) (p' : RuleSet) (f' : List Row) where
+        pub scan_quiet : Narrows (m.rule r).narrowed b c Quiet → Removed p r p' → f' ≡ c → Scanned m a c n p' f'
+        scan_quiet (quiet, same) gone seen =
+            subst (λ (x : List Row). f' ≡ x → Scanned m a x n p' f') (sym same) (λ e. record {
+              applied = h.applied;
+              asleep = λ q l no. elim (cases_eq q r) [
+                | inl is ↦ ap (λ i. (m.rule i).narrowed b) is ∙ quiet
+                | inr apart ↦ h.asleep q l (sym (gone.others q apart) ∙ no)
+              ];
+              seen = e;
+              long = h.long;
+            }) seen
+
+        pub scan_narrows : Narrows (m.rule r).narrowed b c Narrowed → Woken w b c p p' → f' ≡ c → length c ≡ length b → Scanned m a c (n + 1) p' f'
+        scan_narrows (narrows, moved) woken seen long =
+            let l = listed (λ e. moved (cells_same c b (sym narrows ∙ e))) in
+            let t = subst Real narrows ((laws.each r).real b scanned_sound) in record {
+              applied = more h.applied r (lowest_narrows m b r l (below (omega arith)) c narrows moved) narrows;
+              asleep = λ q k no.
+                  let (was, unstirred) = woken q (omega (arith, is.room)) no in
+                  stays_quiet m laws b c q scanned_sound t (sym long)
+                  (λ i j touched. unstirred i (omega arith) (is.listed i q j ∙ both _ _ (lt-ltb q m.size k) touched))
+                  (h.asleep q k was);
+              seen = seen;
+              long = long ∙ h.long;
+            }

@@ -1,34 +1,42 @@
--- A quiet rule stays quiet where another narrows cells that it does not touch.
-use Rattle.std.proofs.Common.{◌≡◌, ℕ, true, List, length, sym, refl, ap, ◌∙◌, subst, inl, inr, arith}
-use Rattle.std.proofs.lemmas.Bool.{cases_Bool}
+-- A quiet rule stays quiet where no cell that it touches changes.
+use Rattle.std.proofs.Common.{◌≡◌, ℕ, ◌<◌, ◌&&◌, Bool, true, List, length, set, lt-ltb, length-set, sym, refl, ap, ◌∙◌, subst, inl, inr, arith}
+use Rattle.std.proofs.lemmas.Bool.{cases_Bool, cases_eq, true≢false}
+use Rattle.std.proofs.lemmas.List.{get_or-set_other}
 use Rattle.bounds.specs.declared.row.Row.{Row}
-use Rattle.bounds.specs.Boards.{Board, void, cells, sound, Within}
+use Rattle.bounds.specs.Boards.{Board, void, cells, sound, Within, none_row}
 use Rattle.bounds.specs.Laws.{Meaning, FiveLaws, Touched, Alike}
-use Rattle.settling.specs.Asleep.{Apart}
+use Rattle.settling.specs.declared.watchers.Watchers.{Watchers}
+use Rattle.settling.specs.Asleep.{Asleep}
+use Rattle.settling.specs.Plans.{Still}
+use Rattle.settling.specs.Watching.{Watching, watching}
 use Rattle.bounds.proofs.Rows.{inside_length}
 use Rattle.bounds.proofs.Places.{same_rows}
 
-module _ (m : Meaning) (laws : FiveLaws m) (a b : List Row) (r q : ℕ) (s : sound a ≡ true) (t : sound b ≡ true) (e : length a ≡ length b)
-    (narrows : (m.rule r).narrowed a ≡ cells b) (apart : Apart m (length b) (length b) r q) where
-  at_length : (i c : ℕ) → (m.rule i).touches (length a) c ≡ (m.rule i).touches (length b) c
-  at_length i c = ap (λ n. (m.rule i).touches n c) e
+pub both : (x y : Bool) → x ≡ true → y ≡ true → (x && y) ≡ true
+both x y e f = (λ i. e i && f i)
 
-  -- the cells that q touches are as they were
-  same : Touched (m.rule q) a b (λ x y. x ≡ y)
-  same c l touched = elim (cases_Bool ((m.rule r).touches (length a) c)) [
-    | inl u ↦ absurd (apart c (omega arith) (sym (at_length r c) ∙ u) (sym (at_length q c) ∙ touched))
-    | inr u ↦ (laws.each r).local_frame a b s narrows c l u
-  ]
-
+module _ (m : Meaning) (laws : FiveLaws m) (a b : List Row) (q : ℕ) (s : sound a ≡ true) (t : sound b ≡ true) (e : length a ≡ length b)
+    (same : Touched (m.rule q) a b (λ x y. x ≡ y)) where
   still : (x : Board) → (m.rule q).narrowed b ≡ x → Alike (m.rule q) (cells a) x → x ≡ cells b
   still void is k = absurd k
   still (cells h) is k =
       let n = inside_length h b (subst (λ (x : Board). Within x (cells b)) is ((laws.each q).within b t)) in
       ap cells (same_rows h b n (λ c l. elim (cases_Bool ((m.rule q).touches (length b) c)) [
-        | inl u ↦ let v = at_length q c ∙ u in sym (k c (omega arith) v) ∙ same c (omega arith) v
+        | inl u ↦ let v = ap (λ k. (m.rule q).touches k c) e ∙ u in sym (k c (omega arith) v) ∙ same c (omega arith) v
         | inr u ↦ sym ((laws.each q).local_frame b h t is c (omega arith) u)
       ]))
 
   pub stays_quiet : (m.rule q).narrowed a ≡ cells a → (m.rule q).narrowed b ≡ cells b
   stays_quiet quiet = still ((m.rule q).narrowed b) refl
       (subst (λ (x : Board). Alike (m.rule q) x ((m.rule q).narrowed b)) quiet ((laws.each q).local_end a b s t e same))
+
+-- where no rule narrows the rows, another row in one cell may stir only the rules that are listed with it
+module _ (m : Meaning) (laws : FiveLaws m) (a : List Row) (c : ℕ) (x : Row) (w : Watchers) (n : ℕ) (at : Watching m n w) where
+  pub stirs_listed : sound a ≡ true → length a ≡ n → Still m (cells a) → c < n → sound (set a c x) ≡ true → Asleep m (set a c x) (watching w c)
+  stirs_listed s long quiet here t q l asleep =
+      let e : length a ≡ length (set a c x) = sym (length-set a c x) in
+      stays_quiet m laws a (set a c x) q s t e (λ k i touched. elim (cases_eq k c) [
+        | inl is ↦ absurd (true≢false (sym (at.listed c q here
+            ∙ both _ _ (lt-ltb q m.size l) ((λ j. (m.rule q).touches (sym long j) (sym is j)) ∙ touched)) ∙ asleep))
+        | inr apart ↦ sym (get_or-set_other a c k x none_row apart)
+      ]) (quiet q l)

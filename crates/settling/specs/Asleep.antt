@@ -1,28 +1,28 @@
 -- Which rules are pending: one that is not is quiet on the rows.
-use Rattle.std.specs.Prelude.{◌≡◌, ℕ, ◌<◌, Bool, true, false, List, ◌≢◌, slice_index_or, slice_set}
+use Rattle.std.specs.Prelude.{◌≡◌, ℕ, ◌*◌, ◌<◌, true, false, List, length, slice_index_or}
 use Rattle.bounds.specs.declared.row.Row.{Row}
-use Rattle.bounds.specs.Boards.{cells}
+use Rattle.bounds.specs.Boards.{cells, none_row}
 use Rattle.bounds.specs.Laws.{Meaning}
 use Rattle.rule_families.specs.declared.change.Change.{Change}
 use Rattle.rule_families.specs.declared.change.Change.TheVariants.{Quiet, Narrowed, Void}
+use Rattle.rule_sets.specs.declared.rule_set.RuleSet.{RuleSet}
+use Rattle.rule_sets.specs.Members.{has, Removed}
+use Rattle.settling.specs.declared.watchers.Watchers.{Watchers}
+use Rattle.settling.specs.Watching.{watching}
 
-abbrev pub Asleep : Meaning → List Row → List Bool → Type 0
-Asleep m a p = (q : ℕ) → q < m.size → slice_index_or p q true ≡ false → (m.rule q).narrowed a ≡ cells a
+abbrev pub Asleep : Meaning → List Row → RuleSet → Type 0
+Asleep m a p = (q : ℕ) → q < m.size → has p q ≡ false → (m.rule q).narrowed a ≡ cells a
 
--- of n cells, one below c is touched by both rules
-abbrev pub Apart : Meaning → ℕ → ℕ → ℕ → ℕ → Type 0
-Apart m n c r q = (k : ℕ) → k < c → (m.rule r).touches n k ≡ true → (m.rule q).touches n k ≢ true
+-- of the cells below k, those that are listed with the rule have the same row
+abbrev pub Unstirred : Watchers → List Row → List Row → ℕ → ℕ → Type 0
+Unstirred w a b k q = (c : ℕ) → c < k → has (watching w c) q ≡ true → slice_index_or a c none_row ≡ slice_index_or b c none_row
 
--- a rule that is not pending after was not before, and does not touch the cell
-abbrev pub WokenAt : Meaning → ℕ → ℕ → List Bool → List Bool → Type 0
-WokenAt m n c p p' = (q : ℕ) → q < m.size → slice_index_or p' q true ≡ false → (slice_index_or p q true ≡ false) × ((m.rule q).touches n c ≡ false)
-
--- and it touches none of the cells that rule r touches
-abbrev pub Woken : Meaning → ℕ → ℕ → List Bool → List Bool → Type 0
-Woken m n r p p' = (q : ℕ) → q < m.size → slice_index_or p' q true ≡ false → (slice_index_or p q true ≡ false) × Apart m n n r q
+-- a rule that is not pending after was not before, and no cell changed that is listed with it
+abbrev pub Woken : Watchers → List Row → List Row → RuleSet → RuleSet → Type 0
+Woken w a b p p' = (q : ℕ) → q < 64 * w.words → has p' q ≡ false → (has p q ≡ false) × Unstirred w a b (length b) q
 
 -- what a rule's answer makes of the pending rules
-abbrev pub Marked : Meaning → ℕ → ℕ → List Bool → List Bool → Change → Type 0
-Marked m n r p p' Quiet = p' ≡ slice_set p r false
-Marked m n r p p' Narrowed = Woken m n r p p'
-Marked m n r p p' Void = p' ≡ p
+abbrev pub Marked : Watchers → ℕ → List Row → List Row → RuleSet → RuleSet → Change → Type 0
+Marked w r a b p p' Quiet = Removed p r p'
+Marked w r a b p p' Narrowed = Woken w a b p p'
+Marked w r a b p p' Void = p' ≡ p

@@ -1,3 +1,4 @@
 pub mod Plans
+pub mod Watching
 pub mod Asleep
 pub mod Settles

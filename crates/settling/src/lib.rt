@@ -2,3 +2,4 @@
 
 pub mod settle;
 pub mod settled;
+pub mod watchers;

@@ -1,32 +1,50 @@
 // What narrows rows until no rule narrows them.
-ghost use Rattle.std.specs.Prelude.{◌≡◌, ◌<◌, ◌≤◌, true, length, replicate};
+ghost use Rattle.std.specs.Prelude.{◌≡◌, ◌<◌, ◌≤◌, true, length};
 ghost use Rattle.bounds.specs.Boards.{sound, spread};
 ghost use Rattle.rule_families.specs.Narrows.{Narrows};
-ghost use Rattle.settling.specs.Asleep.{Woken, WokenAt, Marked};
+ghost use Rattle.settling.specs.Asleep.{Asleep, Woken, Marked};
 ghost use Rattle.settling.specs.Settles.{Settles};
+ghost use Rattle.settling.specs.Watching.{Watching};
 
 use crate::settled::Settled;
+use crate::watchers::{MOST_CELLS, Watchers};
 use bounds::row::Row;
 use rule_families::change::Change;
-use rule_families::family::{Family, MOST_RULES};
+use rule_families::family::Family;
+use rule_sets::rule_set::RuleSet;
 
-// A scan over the pending rules, from the lowest, that starts again whenever one narrows. A rule that is not pending is quiet.
-// Kept: the scan changes which rules are pending and is left from inside, which an iterator over them cannot be.
-// Kept: settling takes no heap, so the pending rules are a table with room for all, of which a family has so many.
 // Kept: memory holds plain rows, whose type cannot say that they are those of a board, 1,024 at most.
 pub fn settle_rows<F: Family>(family: &F, rows: &mut [Row]) -> Settled
     requires sound { sound rows.old ≡ true }
     requires few { length rows.old ≤ 1024 }
     ensures { Settles (F.meaning family.now) rows.old rows.new result }
 {
-    let mut pending = all_pending();
+    let watchers = Watchers::of(family, rows.len());
+    settle_from(family, &watchers, RuleSet::below(family.size()), rows)
+}
+
+// The same for rows on which every rule is quiet that is not pending.
+// A scan over the pending rules, from the lowest, that starts again whenever one narrows.
+// Kept: the scan changes which rules are pending and is left from inside, which an iterator over them cannot be.
+pub fn settle_from<F: Family>(
+    family: &F,
+    watchers: &Watchers,
+    mut pending: RuleSet,
+    rows: &mut [Row],
+) -> Settled
+    requires sound { sound rows.old ≡ true }
+    requires few { length rows.old ≤ 1024 }
+    requires watching { Watching (F.meaning family.now) (length rows.old) watchers.now }
+    requires asleep { Asleep (F.meaning family.now) rows.old pending }
+    ensures { Settles (F.meaning family.now) rows.old rows.new result }
+{
+    let mut room = [Row::default(); MOST_CELLS];
+    let before = &mut room[..rows.len()];
+    before.copy_from_slice(rows);
     // Each application takes one at least from the width.
     'scan: for applied in 0..width(rows) {
-        for rule in 0..family.size() {
-            if !pending[rule] {
-                continue;
-            }
-            match apply(family, rule, rows, &mut pending) {
+        while let Some(rule) = pending.first(watchers.words) {
+            match apply(family, watchers, rule, rows, before, &mut pending) {
                 Change::Quiet => {}
                 Change::Narrowed => continue 'scan,
                 Change::Void => return Settled::Void(applied + 1),
@@ -37,30 +55,31 @@ pub fn settle_rows<F: Family>(family: &F, rows: &mut [Row]) -> Settled
     unreachable()
 }
 
-fn all_pending() -> [bool; MOST_RULES]
-    ensures { result ≡ replicate 4096 true }
-{
-    [true; MOST_RULES]
-}
-
 // Narrows the rows by the rule: where it is quiet it waits no more, and where it narrows them it wakes what it may have stirred.
-// Kept: the family is asked and the table written; in one struct each clause would name its two parts, and say no less.
 fn apply<F: Family>(
     family: &F,
+    watchers: &Watchers,
     rule: usize,
     rows: &mut [Row],
-    pending: &mut [bool; MOST_RULES],
+    before: &mut [Row],
+    pending: &mut RuleSet,
 ) -> Change
     requires sound { sound rows.old ≡ true }
+    requires few { length rows.old ≤ 1024 }
     requires listed { rule < 4096 }
+    requires words { watchers.now.words ≤ 64 }
+    requires before { before.old ≡ rows.old }
     ensures narrows { Narrows ((F.meaning family.now).rule rule).narrowed rows.old rows.new result }
-    ensures marks { Marked (F.meaning family.now) (length rows.old) rule pending.old pending.new result }
+    ensures marks { Marked watchers.now rule rows.old rows.new pending.old pending.new result }
+    ensures before { before.new ≡ rows.new }
 {
-    let cells = rows.len();
     let change = family.narrow(rule, rows);
     match change {
-        Change::Quiet => pending[rule] = false,
-        Change::Narrowed => wake(family, rule, cells, pending),
+        Change::Quiet => pending.remove(rule),
+        Change::Narrowed => {
+            wake(watchers, before, rows, pending);
+            before.copy_from_slice(rows);
+        }
         Change::Void => {}
     }
     change
@@ -79,24 +98,16 @@ fn width(rows: &[Row]) -> u32
     width
 }
 
-// Makes every rule pending that touches a cell which the rule touches, itself among them.
-// Kept: a `for` over `(0..cells).filter(..)` that asks the family gets an ill-typed proof from the checker.
-fn wake<F: Family>(family: &F, rule: usize, cells: usize, pending: &mut [bool; MOST_RULES])
-    ensures { Woken (F.meaning family.now) cells rule pending.old pending.new }
+// Makes every rule pending that touches a cell whose row changed.
+fn wake(watchers: &Watchers, before: &[Row], rows: &[Row], pending: &mut RuleSet)
+    requires few { length rows.now ≤ 1024 }
+    requires words { watchers.now.words ≤ 64 }
+    requires before { length before.now ≡ length rows.now }
+    ensures { Woken watchers.now before.now rows.now pending.old pending.new }
 {
-    for cell in 0..cells {
-        if family.touches(rule, cells, cell) {
-            wake_at(family, cells, cell, pending);
-        }
-    }
-}
-
-fn wake_at<F: Family>(family: &F, cells: usize, cell: usize, pending: &mut [bool; MOST_RULES])
-    ensures { WokenAt (F.meaning family.now) cells cell pending.old pending.new }
-{
-    for (rule, waits) in pending[..family.size()].iter_mut().enumerate() {
-        if family.touches(rule, cells, cell) {
-            *waits = true;
+    for (cell, row) in rows.iter().enumerate() {
+        if before[cell] != *row {
+            pending.unite(&watchers.by_cell[cell], watchers.words);
         }
     }
 }

@@ -1,0 +1,129 @@
+-- A bit of the words, set, cleared, joined, and the lowest that is set.
+use Rattle.std.proofs.Common.{◌≡◌, ℕ, ◌+◌, ◌*◌, ◌/◌, ◌%◌, ◌^◌, ◌<◌, ◌≤◌, ◌||◌, ◌&&◌, ltb, max, Bool, true, false, eqb, ◌≢◌, List, length, replicate, zero, suc, cond, position, Some, None, get_or, set, take, bit_and, bit_or, w64, sym, refl, ap, ◌∙◌, inl, inr, arith}
+use Rattle.std.proofs.Math.Bool.{or-false}
+use Rattle.std.proofs.lemmas.Bool.{cases_eq, cases_Bool, eqb-true, ltb-true, ltb-false, not-false, true≢false}
+use Rattle.std.proofs.lemmas.List.{get_or-set_same, get_or-set_other, get_or-take, length-take}
+use Rattle.std.proofs.lemmas.List.Quantifiers.{position-Some}
+use Rattle.std.proofs.lemmas.Option.{none-some}
+use Rattle.std.specs.List.{position_or_len}
+use Rattle.std.proofs.lemmas.List.Sums.{sum_by-set, fails_before_first}
+use Rattle.std.proofs.lemmas.Nat.{and_le_l}
+use Rattle.std.proofs.lemmas.Nat.Bits.{bit_at_set_same, bit_at_set_other, bit_at_clear_same, bit_at_clear_other, bit_at-lt, bit_at_or, bit_at-zero, bit_at-trailing_zeros}
+use Rattle.std.specs.Int.{bit_at, bit_not, trailing_zeros}
+use Rattle.rule_sets.specs.declared.rule_set.RuleSet.{RuleSet}
+use Rattle.rule_sets.specs.Members.{has, some_rule, Empty, Inserted, Removed, weight, United, Lowest}
+
+-- the bit of rule r in the words
+abbrev bit : List ℕ → ℕ → ℕ
+bit ws r = bit_at (get_or ws (r / 64) 0) (r % 64)
+
+-- another word in place of one
+module _ (ws : List ℕ) (i w : ℕ) (l : i < length ws) where
+  here : (r : ℕ) → r / 64 ≡ i → bit (set ws i w) r ≡ bit_at w (r % 64)
+  here r e = ap (λ k. bit_at (get_or (set ws i w) k 0) (r % 64)) e ∙ ap (λ x. bit_at x (r % 64)) (get_or-set_same ws i w 0 l)
+
+  stays : (r : ℕ) → (r / 64 ≡ i → bit_at w (r % 64) ≡ bit_at (get_or ws i 0) (r % 64)) → bit (set ws i w) r ≡ bit ws r
+  stays r h = elim (cases_eq (r / 64) i) [
+    | inl e ↦ here r e ∙ h e ∙ ap (λ k. bit_at (get_or ws k 0) (r % 64)) (sym e)
+    | inr n ↦ ap (λ x. bit_at x (r % 64)) (get_or-set_other ws i (r / 64) w 0 n)
+  ]
+
+not_both : (b : ℕ) → b ≡ 0 → b ≡ 1 → ⊥
+not_both b zero_ one = omega arith
+
+module _ (s : RuleSet) (r : ℕ) (l : r / 64 < length s.words) where
+  abbrev word : ℕ
+  word = get_or s.words (r / 64) 0
+
+  apart : (q : ℕ) → q ≢ r → q / 64 ≡ r / 64 → q % 64 ≢ r % 64
+  apart q n e f = n (omega arith)
+
+  pub inserted : Inserted s r (record { words = set s.words (r / 64) (bit_or word (1 * 2 ^ (r % 64) % 2 ^ 64)) })
+  inserted = record {
+    there = ap (λ x. eqb x 1) (here s.words (r / 64) _ l r refl ∙ bit_at_set_same w64 word (r % 64) (omega arith));
+    others = λ q n. ap (λ x. eqb x 1) (stays s.words (r / 64) _ l q (λ e. bit_at_set_other w64 word (r % 64) (omega arith) (q % 64) (apart q n e)));
+  }
+
+  abbrev cleared : ℕ
+  cleared = bit_and word (bit_not w64 (1 * 2 ^ (r % 64) % 2 ^ 64))
+
+  lighter : bit s.words r ≡ 1 → weight (record { words = set s.words (r / 64) cleared }) < weight s
+  lighter h =
+      let less : cleared ≢ word = λ e. not_both (bit_at cleared (r % 64)) (bit_at_clear_same w64 word (r % 64) (omega arith)) (ap (λ x. bit_at x (r % 64)) e ∙ h) in
+      omega (arith, sum_by-set (λ (x : ℕ). x) s.words (r / 64) cleared 0 l, and_le_l word (bit_not w64 (1 * 2 ^ (r % 64) % 2 ^ 64)), less)
+
+  pub removed : Removed s r (record { words = set s.words (r / 64) cleared })
+  removed = record {
+    gone = ap (λ x. eqb x 1) (here s.words (r / 64) _ l r refl ∙ bit_at_clear_same w64 word (r % 64) (omega arith));
+    others = λ q n. ap (λ x. eqb x 1) (stays s.words (r / 64) _ l q (λ e. bit_at_clear_other w64 word (r % 64) (omega arith) (q % 64) (omega arith) (apart q n e)));
+    lighter = λ h. lighter (eqb-true _ 1 h);
+  }
+
+zeros : (n i : ℕ) → get_or {A = ℕ} (replicate n 0) i 0 ≡ 0
+zeros zero i = refl
+zeros (suc n) zero = refl
+zeros (suc n) (suc i) = zeros n i
+
+pub empty : Empty (record { words = replicate 64 0 })
+empty r = ap (λ x. eqb x 1) (ap (λ x. bit_at x (r % 64)) (zeros 64 (r / 64)) ∙ bit_at-zero (r % 64))
+
+-- the words below n joined with the other's
+pub record Joined (s o : RuleSet) (n : ℕ) (t : RuleSet) : Type 0 where
+  pub joined : (i : ℕ) → i < n → get_or t.words i 0 ≡ bit_or (get_or s.words i 0) (get_or o.words i 0)
+  pub others : (i : ℕ) → n ≤ i → get_or t.words i 0 ≡ get_or s.words i 0
+
+either : (a b : ℕ) → a < 2 → b < 2 → eqb (max a b) 1 ≡ (eqb a 1 || eqb b 1)
+either zero zero l k = refl
+either zero (suc zero) l k = refl
+either zero (suc (suc b)) l k = absurd (omega arith)
+either (suc zero) zero l k = refl
+either (suc zero) (suc zero) l k = refl
+either (suc zero) (suc (suc b)) l k = absurd (omega arith)
+either (suc (suc a)) b l k = absurd (omega arith)
+
+pub united : (s o : RuleSet) (n : ℕ) (t : RuleSet) → Joined s o n t → United s o n t
+united s o n t h r = elim (cases_Bool (ltb r (64 * n))) [
+  | inl e ↦ ap (λ x. eqb (bit_at x (r % 64)) 1) (h.joined (r / 64) (omega (arith, ltb-true r (64 * n) e)))
+      ∙ ap (λ x. eqb x 1) (bit_at_or (get_or s.words (r / 64) 0) (get_or o.words (r / 64) 0) (r % 64))
+      ∙ either (bit s.words r) (bit o.words r) (bit_at-lt _ _) (bit_at-lt _ _)
+      ∙ ap (λ x. has s r || x && has o r) (sym e)
+  | inr e ↦ ap (λ x. eqb (bit_at x (r % 64)) 1) (h.others (r / 64) (omega (arith, ltb-false r (64 * n) e)))
+      ∙ sym (or-false (has s r)) ∙ ap (λ x. has s r || x && has o r) (sym e)
+]
+
+no_bit : (w r : ℕ) → some_rule w ≡ false → eqb (bit_at w r) 1 ≡ false
+no_bit w r e = ap (λ x. eqb x 1) (ap (λ x. bit_at x r) (eqb-true w 0 (not-false (eqb w 0) e)) ∙ bit_at-zero r)
+
+not_some : (b : Bool) (n : ℕ) → cond b (Some n) None ≡ None → b ≡ false
+not_some true n e = absurd (none-some n (sym e))
+not_some false n e = refl
+
+some_positive : (w : ℕ) → some_rule w ≡ true → 0 < w
+some_positive zero e = absurd (true≢false (sym e))
+some_positive (suc w) e = omega arith
+
+pub lowest_none : (s : RuleSet) (n : ℕ) → n ≤ length s.words → position some_rule (take n s.words) ≡ None → Lowest s n None
+lowest_none s n l e r below =
+    let ws = take n s.words in
+    let k = position_or_len some_rule ws in
+    let past = ltb-false k (length ws) (not_some (ltb k (length ws)) k e) in
+    ap (λ x. eqb (bit_at x (r % 64)) 1) (sym (get_or-take n s.words (r / 64) 0 (omega arith)))
+    ∙ no_bit (get_or ws (r / 64) 0) (r % 64) (fails_before_first some_rule ws (r / 64) 0 (omega (arith, length-take n s.words)))
+
+pub lowest_some : (s : RuleSet) (n w : ℕ) → get_or s.words w 0 < 2 ^ 64 → n ≤ length s.words → position some_rule (take n s.words) ≡ Some w
+    → Lowest s n (Some (64 * w + trailing_zeros w64 (get_or s.words w 0)))
+lowest_some s n w fits l e =
+    let at = position-Some some_rule (take n s.words) w 0 e in
+    let here : get_or (take n s.words) w 0 ≡ get_or s.words w 0 = get_or-take n s.words w 0 (omega (arith, length-take n s.words, at.0)) in
+    let low = bit_at-trailing_zeros w64 (get_or s.words w 0) (some_positive (get_or s.words w 0) (ap some_rule (sym here) ∙ at.1)) fits in
+    let t = trailing_zeros w64 (get_or s.words w 0) in
+    let q : (64 * w + t) / 64 ≡ w = omega (arith, low.0) in
+    let m : (64 * w + t) % 64 ≡ t = omega (arith, low.0) in (
+      ap (λ x. eqb x 1) ((λ i. bit_at (get_or s.words (q i) 0) (m i)) ∙ low.1),
+      omega (arith, length-take n s.words, at.0, low.0),
+      λ r below. elim (cases_eq (r / 64) w) [
+        | inl e ↦ ap (λ x. eqb x 1) (ap (λ k. bit_at (get_or s.words k 0) (r % 64)) e ∙ low.2 (r % 64) (omega arith))
+        | inr k ↦ ap (λ x. eqb (bit_at x (r % 64)) 1) (sym (get_or-take n s.words (r / 64) 0 (omega (arith, length-take n s.words, at.0))))
+            ∙ no_bit (get_or (take n s.words) (r / 64) 0) (r % 64) (at.2 (r / 64) (omega (arith, low.0)))
+      ],
+    )

@@ -1,0 +1,3 @@
+#![tactic(auto)]
+
+pub mod rule_set;

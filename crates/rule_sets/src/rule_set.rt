@@ -1,0 +1,76 @@
+// Sets of rules.
+ghost use Rattle.std.specs.Prelude.{◌≡◌, ◌<◌, ◌≤◌, take, position};
+ghost use Rattle.rule_sets.specs.Members.{some_rule, Empty, Below, Inserted, Removed, United, Lowest};
+
+use rule_families::family::MOST_RULES;
+
+// How many words have a bit for each rule.
+const MOST_WORDS: usize = MOST_RULES / 64;
+
+// A set of rules, as a bit for each: rule r is bit r % 64 of word r / 64.
+#[derive(Clone, Copy)]
+pub struct RuleSet {
+    words: [u64; MOST_WORDS],
+}
+
+impl RuleSet {
+    pub fn none() -> RuleSet
+        ensures { Empty result }
+    {
+        RuleSet {
+            words: [0; MOST_WORDS],
+        }
+    }
+
+    // The rules below a number.
+    pub fn below(rules: usize) -> RuleSet
+        requires { rules ≤ 4096 }
+        ensures { Below rules result }
+    {
+        let mut set = RuleSet::none();
+        for rule in 0..rules {
+            set.insert(rule);
+        }
+        set
+    }
+
+    pub fn insert(&mut self, rule: usize)
+        requires { rule < 4096 }
+        ensures { Inserted self.old rule self.new }
+    {
+        self.words[rule / 64] |= 1 << (rule % 64);
+    }
+
+    pub fn remove(&mut self, rule: usize)
+        requires { rule < 4096 }
+        ensures { Removed self.old rule self.new }
+    {
+        self.words[rule / 64] &= !(1 << (rule % 64));
+    }
+
+    // Adds the other's rules that are below so many words.
+    pub fn unite(&mut self, other: &RuleSet, words: usize)
+        requires { words ≤ 64 }
+        ensures { United self.old other.now words self.new }
+    {
+        for word in 0..words {
+            self.words[word] |= other.words[word];
+        }
+    }
+
+    // The lowest of the rules that are below so many words.
+    pub fn first(&self, words: usize) -> Option<usize>
+        requires { words ≤ 64 }
+        ensures { Lowest self.now words result }
+    {
+        let word = self.first_word(words)?;
+        Some(64 * word + self.words[word].trailing_zeros() as usize)
+    }
+
+    fn first_word(&self, words: usize) -> Option<usize>
+        requires { words ≤ 64 }
+        ensures { result ≡ position some_rule (take words self.now.words) }
+    {
+        self.words[..words].iter().position(|word| *word != 0)
+    }
+}

@@ -1,0 +1,25 @@
+-- The rules by the cells that they touch.
+use Rattle.std.specs.Prelude.{◌≡◌, ℕ, ◌*◌, ◌<◌, ◌≤◌, ◌&&◌, nat_lt, false, ◌≢◌, slice_index_or}
+use Rattle.bounds.specs.Laws.{Meaning}
+use Rattle.rule_sets.specs.declared.rule_set.RuleSet.{RuleSet}
+use Rattle.rule_sets.specs.Members.{has, no_rules}
+use Rattle.settling.specs.declared.watchers.Watchers.{Watchers}
+
+-- the rules that are listed with a cell
+abbrev pub watching : Watchers → ℕ → RuleSet
+watching w c = slice_index_or w.by_cell c no_rules
+
+-- of the rules below r, those that touch a cell of n, and no others, are listed with it
+abbrev pub ListedBelow : Meaning → ℕ → ℕ → Watchers → Type 0
+ListedBelow m n r w = (c q : ℕ) → c < n → has (watching w c) q ≡ (nat_lt q r && (m.rule q).touches n c)
+
+pub record Watching (m : Meaning) (n : ℕ) (w : Watchers) : Type 0 where
+  pub room : m.size ≤ 64 * w.words
+  pub few : w.words ≤ 64
+  pub listed : ListedBelow m n m.size w
+
+-- rule r is listed with the cells that it touches, where no other is listed anew
+pub record Listed (m : Meaning) (n r : ℕ) (w w' : Watchers) : Type 0 where
+  pub words : w'.words ≡ w.words
+  pub rule : (c : ℕ) → c < n → has (watching w c) r ≡ false → has (watching w' c) r ≡ (m.rule r).touches n c
+  pub others : (c q : ℕ) → q ≢ r → has (watching w' c) q ≡ has (watching w c) q

@@ -1,0 +1,45 @@
+// The rules of a family by the cells that they touch.
+ghost use Rattle.std.specs.Prelude.{◌<◌, ◌≤◌};
+ghost use Rattle.settling.specs.Watching.{Watching, Listed};
+
+use rule_families::family::Family;
+use rule_sets::rule_set::RuleSet;
+
+// A board has no more cells.
+pub const MOST_CELLS: usize = 1024;
+
+// For each cell the rules that touch it, and how many words of a set hold all rules.
+#[derive(Drop)]
+pub struct Watchers {
+    pub by_cell: [RuleSet; MOST_CELLS],
+    pub words: usize,
+}
+
+impl Watchers {
+    pub fn of<F: Family>(family: &F, cells: usize) -> Watchers
+        requires { cells ≤ 1024 }
+        ensures { Watching (F.meaning family.now) cells result }
+    {
+        let mut watchers = Watchers {
+            by_cell: [RuleSet::none(); MOST_CELLS],
+            words: family.size().div_ceil(64),
+        };
+        for rule in 0..family.size() {
+            watchers.list(family, rule, cells);
+        }
+        watchers
+    }
+
+    // Lists the rule with each cell that it touches.
+    fn list<F: Family>(&mut self, family: &F, rule: usize, cells: usize)
+        requires rule { rule < 4096 }
+        requires cells { cells ≤ 1024 }
+        ensures { Listed (F.meaning family.now) cells rule self.old self.new }
+    {
+        for cell in 0..cells {
+            if family.touches(rule, cells, cell) {
+                self.by_cell[cell].insert(rule);
+            }
+        }
+    }
+}
