@@ -1,2 +1,3 @@
 pub mod Narrows
 pub mod Placed
+pub mod Marks

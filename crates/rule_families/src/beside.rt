@@ -53,6 +53,14 @@ impl<A: Family, B: Family> Family for Beside<A, B> {
         }
     }
 
+    fn mark(&self, rule: usize, marks: &mut [bool]) {
+        match self.place(rule) {
+            Some(Place::First(own)) => self.first.mark(own, marks),
+            Some(Place::Second(own)) => self.second.mark(own, marks),
+            None => {}
+        }
+    }
+
     fn narrow(&self, rule: usize, rows: &mut [Row]) -> Change {
         match self.place(rule) {
             Some(Place::First(own)) => self.first.narrow(own, rows),

@@ -2,6 +2,7 @@
 ghost use Rattle.std.specs.Prelude.{◌≡◌, true};
 ghost use Rattle.bounds.specs.Boards.{sound};
 ghost use Rattle.bounds.specs.Laws.{Meaning, FiveLaws};
+ghost use Rattle.rule_families.specs.Marks.{Marks};
 ghost use Rattle.rule_families.specs.Narrows.{Narrows};
 
 use crate::change::Change;
@@ -22,6 +23,10 @@ pub trait Family {
     // Whether the rule touches the cell on a board of so many cells.
     fn touches(&self, rule: usize, cells: usize, cell: usize) -> bool
         ensures { result ≡ ((meaning self.now).rule rule).touches cells cell };
+
+    // Marks the cells that the rule touches, on a board of as many cells as there are marks.
+    fn mark(&self, rule: usize, marks: &mut [bool])
+        ensures { Marks ((meaning self.now).rule rule) marks.old marks.new };
 
     // The rows are narrowed in place; where the rule has no filling left they stay as they were.
     // Kept: memory holds plain rows, so that they are sound is asked here and of all that hands them on, and no type says it.

@@ -1,4 +1,5 @@
 pub mod Compared
+pub mod Gathers
 pub mod Few
 pub mod Rows
 pub mod Reached

@@ -1,8 +1,9 @@
 // Rules that name their cells one by one.
-ghost use Rattle.std.specs.Prelude.{◌≡◌, ◌≤◌, true, length};
+ghost use Rattle.std.specs.Prelude.{◌≡◌, ◌≤◌, true, false, ◌≢◌, ◌⊎◌, length};
 ghost use Rattle.bounds.specs.Boards.{cells, sound, none_row};
 ghost use Rattle.bounds.specs.Scoped.{Scoped, ScopedLaws, fits, gather, scatter, on_board};
 ghost use Rattle.rule_families.specs.Narrows.{Narrows};
+ghost use Rattle.rule_families.specs.Marks.{Marks, MarksNamed};
 
 use bounds::row::Row;
 use bounds::scope::{Scope, fits, names};
@@ -11,8 +12,10 @@ use rule_families::change::Change;
 // The most cells that a rule names: a plate's slots, its variety and 64 counts.
 pub const MOST_NAMED: usize = 66;
 
-// Most rules name so few, and do not pay for the room that a plate needs.
+// Most rules name so few, or so many, and do not pay for the room that the largest plate needs.
 const FEW_NAMED: usize = 4;
+
+const SOME_NAMED: usize = 16;
 
 pub trait Named: Scope {
     ghost scoped: { Self → Scoped };
@@ -38,72 +41,110 @@ pub fn touches<R: Named>(rule: &R, cells: usize, cell: usize) -> bool
     names(rule, 0, cell) && fits(rule, cells)
 }
 
+// Marks the cells that the rule touches, on a board of as many cells as there are marks.
+pub fn mark<R: Named>(rule: &R, marks: &mut [bool])
+    ensures { Marks (on_board (R.scoped rule.now)) marks.old marks.new }
+{
+    if fits(rule, marks.len()) {
+        mark_named(rule, marks);
+    }
+}
+
+#[tactic(auto, using(bounds::proofs::Scopes::fits_at, crate::proofs::Gathers::marks_more))]
+fn mark_named<R: Scope>(rule: &R, marks: &mut [bool])
+    requires { fits (R.scope rule.now) (length marks.old) ≡ true }
+    ensures { MarksNamed (R.scope rule.now) marks.old marks.new }
+{
+    for i in 0..rule.arity() {
+        marks[rule.cell(i)] = true;
+    }
+}
+
 // Narrows the rows of the named cells; a rule that names a missing cell leaves every board as it is.
 pub fn narrow<R: Named>(rule: &R, rows: &mut [Row]) -> Change
     requires { sound rows.old ≡ true }
     ensures { Narrows (on_board (R.scoped rule.now)).narrowed rows.old rows.new result }
 {
-    if !fits(rule, rows.len()) {
-        return Change::Quiet;
-    }
-    if rule.arity() <= FEW_NAMED {
-        narrow_in::<R, FEW_NAMED>(rule, rows)
+    let arity = rule.arity();
+    if arity <= FEW_NAMED {
+        narrow_in::<R, FEW_NAMED>(rule, arity, rows)
+    } else if arity <= SOME_NAMED {
+        narrow_in::<R, SOME_NAMED>(rule, arity, rows)
     } else {
-        narrow_in::<R, MOST_NAMED>(rule, rows)
+        narrow_in::<R, MOST_NAMED>(rule, arity, rows)
     }
 }
 
 // The same in room for N rows.
 // Kept: the rows stand at the front of room on the stack, since settling takes no heap.
 #[tactic(auto, using(bounds::proofs::Lifted::own_sound, bounds::proofs::Lifted::lifted_quiet))]
-fn narrow_in<R: Named, const N: usize>(rule: &R, rows: &mut [Row]) -> Change
-    requires room { length (R.scoped rule.now).scope ≤ N }
+fn narrow_in<R: Named, const N: usize>(rule: &R, arity: usize, rows: &mut [Row]) -> Change
+    requires arity { arity ≡ length (R.scoped rule.now).scope }
+    requires room { arity ≤ N }
     requires few { N ≤ 66 }
-    requires whole { fits (R.scoped rule.now).scope (length rows.old) ≡ true }
     requires sound { sound rows.old ≡ true }
     ensures { Narrows (on_board (R.scoped rule.now)).narrowed rows.old rows.new result }
 {
-    let mut room = [Row::default(); N];
-    let own = &mut room[..rule.arity()];
-    gathered(rule, rows, own);
+    let mut found = [Row::default(); N];
+    let before = &mut found[..arity];
+    if !gathered(rule, rows, before) {
+        return Change::Quiet;
+    }
+    let mut work = [Row::default(); N];
+    let own = &mut work[..arity];
+    own.copy_from_slice(before);
     match rule.narrow_own(own) {
-        Change::Narrowed => written_back::<R, N>(rule, rows, own),
+        Change::Narrowed => written_back(rule, rows, before, own),
         unchanged => unchanged,
     }
 }
 
-// Writes the rows to the named cells, and gathers them again. The board may be what it was: a cell that is named twice may get its row back.
-#[tactic(auto, using(crate::proofs::Compared::writing_back))]
-fn written_back<R: Scope, const N: usize>(rule: &R, rows: &mut [Row], own: &mut [Row]) -> Change
-    requires own { length own.old ≡ length (R.scope rule.now) }
-    requires room { length own.old ≤ N }
-    requires few { N ≤ 66 }
+// Writes the rows to the named cells. The board may be what it was: a cell that is named twice may get its row back.
+#[tactic(auto, using(crate::proofs::Compared::scatter_back))]
+fn written_back<R: Scope>(rule: &R, rows: &mut [Row], before: &[Row], own: &[Row]) -> Change
+    requires own { length own.now ≡ length (R.scope rule.now) }
     requires whole { fits (R.scope rule.now) (length rows.old) ≡ true }
-    ensures { Narrows (λ _. cells (scatter (R.scope rule.now) own.old rows.old)) rows.old rows.new result }
+    requires before { before.now ≡ gather none_row (R.scope rule.now) rows.old }
+    ensures { Narrows (λ _. cells (scatter (R.scope rule.now) own.now rows.old)) rows.old rows.new result }
 {
-    let mut room = [Row::default(); N];
-    let before = &mut room[..own.len()];
-    gathered(rule, rows, before);
     scattered(rule, rows, own);
-    gathered(rule, rows, own);
-    if *own == *before {
+    if stand(rule, rows, before) {
         Change::Quiet
     } else {
         Change::Narrowed
     }
 }
 
-// Copies the rows of the named cells.
-// Kept: the rule, the board's rows and the rule's own are lent apart, as each of the three calls writes another of them.
-#[tactic(auto, using(bounds::proofs::Scopes::fits_at, bounds::proofs::Scopes::at_gather))]
-fn gathered<R: Scope>(rule: &R, rows: &[Row], own: &mut [Row])
-    requires own { length own.old ≡ length (R.scope rule.now) }
+// Whether the rows stand at the named cells.
+#[tactic(auto, using(bounds::proofs::Scopes::fits_at, bounds::proofs::Scopes::at_gather, crate::proofs::Compared::row_tested, crate::proofs::Gathers::not_gathered))]
+fn stand<R: Scope>(rule: &R, rows: &[Row], own: &[Row]) -> bool
+    requires own { length own.now ≡ length (R.scope rule.now) }
     requires whole { fits (R.scope rule.now) (length rows.now) ≡ true }
-    ensures { own.new ≡ gather none_row (R.scope rule.now) rows.now }
+    ensures { ((result ≡ true) × (own.now ≡ gather none_row (R.scope rule.now) rows.now)) ⊎ ((result ≡ false) × (own.now ≢ gather none_row (R.scope rule.now) rows.now)) }
+{
+    for (i, row) in own.iter().enumerate() {
+        if rows[rule.cell(i)] != *row {
+            return false;
+        }
+    }
+    true
+}
+
+// Copies the rows of the named cells, if the board has all of them.
+// Kept: the rule, the board's rows and the rule's own are lent apart, as each of the calls writes another of them.
+#[tactic(auto, using(bounds::proofs::Scopes::at_gather))]
+fn gathered<R: Scope>(rule: &R, rows: &[Row], own: &mut [Row]) -> bool
+    requires own { length own.old ≡ length (R.scope rule.now) }
+    ensures whole { result ≡ fits (R.scope rule.now) (length rows.now) }
+    ensures rows { result ≡ true → own.new ≡ gather none_row (R.scope rule.now) rows.now }
 {
     for (i, row) in own.iter_mut().enumerate() {
-        *row = rows[rule.cell(i)];
+        let Some(found) = rows.get(rule.cell(i)) else {
+            return false;
+        };
+        *row = *found;
     }
+    true
 }
 
 // And writes them.

@@ -76,6 +76,12 @@ impl<S: Numbered> Family for Rules<S> {
         }
     }
 
+    fn mark(&self, rule: usize, marks: &mut [bool]) {
+        if let Some(found) = self.find(rule) {
+            named::mark(&found, marks);
+        }
+    }
+
     fn narrow(&self, rule: usize, rows: &mut [Row]) -> Change {
         match self.find(rule) {
             Some(found) => named::narrow(&found, rows),
