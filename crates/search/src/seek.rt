@@ -14,7 +14,7 @@ use rule_families::family::Family;
 use rule_sets::rule_set::RuleSet;
 use settling::settle::settle_from;
 use settling::settled::Settled;
-use settling::watchers::Watchers;
+use settling::watchers::{MOST_CELLS, Watchers};
 
 // Whether the board holds a plan: the first is then written at the front of the plan memory.
 // Scratch holds the board's rows and a level for each of its cells.
@@ -41,15 +41,18 @@ pub fn seek<F: Family>(
     level.copy_from_slice(rows);
     let watchers = Watchers::of(family, cells);
     let pending = RuleSet::below(family.size());
-    Ok(search(family, &watchers, pending, level, plan, rest))
+    let mut room = [Row::default(); MOST_CELLS];
+    let before = &mut room[..cells];
+    Ok(search(family, &watchers, &pending, before, level, plan, rest))
 }
 
 // Each try has a level of its own, at the front of the rest. After a settle only the rules that touch the cell branched on can narrow.
 // Kept: a plan that a try returned as a borrow could not be lent to the next try of the loop.
-fn search<F: Family>(
+fn search<'w, F: Family>(
     family: &F,
-    watchers: &Watchers,
-    mut pending: RuleSet,
+    watchers: &'w Watchers,
+    mut pending: &'w RuleSet,
+    before: &mut [Row],
     level: &mut [Row],
     plan: &mut [u16],
     rest: &mut [Row],
@@ -59,12 +62,13 @@ fn search<F: Family>(
     requires counts { length level.old ≤ length plan.old }
     requires room { opens level.old * length level.old ≤ length rest.old }
     requires watching { Watching (F.meaning family.now) (length level.old) watchers.now }
-    requires asleep { Asleep (F.meaning family.now) level.old pending }
+    requires asleep { Asleep (F.meaning family.now) level.old pending.now }
+    requires before { length before.old ≡ length level.old }
     ensures { Searched (F.meaning family.now) level.old plan.old plan.new result }
 {
     let cells = level.len();
     loop {
-        if let Settled::Void(_) = settle_from(family, watchers, pending, level) {
+        if let Settled::Void(_) = settle_from(family, watchers, pending, before, level) {
             return false;
         }
         let Some(cell) = first_open(level) else {
@@ -73,8 +77,8 @@ fn search<F: Family>(
         };
         let (tried, deeper) = rest.split_at_mut(cells);
         branch(level, cell, tried);
-        pending = watchers.by_cell[cell];
-        if search(family, watchers, pending, tried, plan, deeper) {
+        pending = &watchers.by_cell[cell];
+        if search(family, watchers, pending, before, tried, plan, deeper) {
             return true;
         }
     }

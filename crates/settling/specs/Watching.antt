@@ -1,5 +1,5 @@
 -- The rules by the cells that they touch.
-use Rattle.std.specs.Prelude.{◌≡◌, ℕ, ◌*◌, ◌<◌, ◌≤◌, ◌&&◌, nat_lt, false, ◌≢◌, slice_index_or}
+use Rattle.std.specs.Prelude.{◌≡◌, ℕ, ◌*◌, ◌<◌, ◌≤◌, ◌&&◌, nat_lt, Bool, false, ◌≢◌, List, slice_index_or}
 use Rattle.bounds.specs.Laws.{Meaning}
 use Rattle.rule_sets.specs.declared.rule_set.RuleSet.{RuleSet}
 use Rattle.rule_sets.specs.Members.{has, no_rules}
@@ -23,3 +23,7 @@ pub record Listed (m : Meaning) (n r : ℕ) (w w' : Watchers) : Type 0 where
   pub words : w'.words ≡ w.words
   pub rule : (c : ℕ) → c < n → has (watching w c) r ≡ false → has (watching w' c) r ≡ (m.rule r).touches n c
   pub others : (c q : ℕ) → q ≢ r → has (watching w' c) q ≡ has (watching w c) q
+
+-- the marks are of the cells of n that the rule touches
+abbrev pub Touches : Meaning → ℕ → ℕ → List Bool → Type 0
+Touches m n r marks = (c : ℕ) → c < n → slice_index_or marks c false ≡ (m.rule r).touches n c

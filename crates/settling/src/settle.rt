@@ -1,5 +1,5 @@
 // What narrows rows until no rule narrows them.
-ghost use Rattle.std.specs.Prelude.{◌≡◌, ◌<◌, ◌≤◌, true, length};
+ghost use Rattle.std.specs.Prelude.{◌≡◌, ◌+◌, ◌*◌, ◌<◌, ◌≤◌, ◌==◌, ◌&&◌, not, true, length};
 ghost use Rattle.bounds.specs.Boards.{sound, spread};
 ghost use Rattle.rule_families.specs.Narrows.{Narrows};
 ghost use Rattle.settling.specs.Asleep.{Asleep, Woken, Marked};
@@ -20,26 +20,29 @@ pub fn settle_rows<F: Family>(family: &F, rows: &mut [Row]) -> Settled
     ensures { Settles (F.meaning family.now) rows.old rows.new result }
 {
     let watchers = Watchers::of(family, rows.len());
-    settle_from(family, &watchers, RuleSet::below(family.size()), rows)
+    let pending = RuleSet::below(family.size());
+    let mut room = [Row::default(); MOST_CELLS];
+    settle_from(family, &watchers, &pending, &mut room[..rows.len()], rows)
 }
 
-// The same for rows on which every rule is quiet that is not pending.
+// The same for rows on which every rule is quiet that is not pending. The rows before an application stand in memory that is lent.
 // A scan over the pending rules, from the lowest, that starts again whenever one narrows.
 // Kept: the scan changes which rules are pending and is left from inside, which an iterator over them cannot be.
 pub fn settle_from<F: Family>(
     family: &F,
     watchers: &Watchers,
-    mut pending: RuleSet,
+    pending: &RuleSet,
+    before: &mut [Row],
     rows: &mut [Row],
 ) -> Settled
     requires sound { sound rows.old ≡ true }
     requires few { length rows.old ≤ 1024 }
     requires watching { Watching (F.meaning family.now) (length rows.old) watchers.now }
-    requires asleep { Asleep (F.meaning family.now) rows.old pending }
+    requires asleep { Asleep (F.meaning family.now) rows.old pending.now }
+    requires before { length before.old ≡ length rows.old }
     ensures { Settles (F.meaning family.now) rows.old rows.new result }
 {
-    let mut room = [Row::default(); MOST_CELLS];
-    let before = &mut room[..rows.len()];
+    let mut pending = *pending;
     before.copy_from_slice(rows);
     // Each application takes one at least from the width.
     'scan: for applied in 0..width(rows) {
@@ -106,8 +109,22 @@ fn wake(watchers: &Watchers, before: &[Row], rows: &[Row], pending: &mut RuleSet
     ensures { Woken watchers.now before.now rows.now pending.old pending.new }
 {
     for (cell, row) in rows.iter().enumerate() {
-        if before[cell] != *row {
+        if differ(before[cell], *row) {
             pending.unite(&watchers.by_cell[cell], watchers.words);
         }
     }
+}
+
+// Whether a bound differs.
+fn differ(a: Row, b: Row) -> bool
+    ensures { result ≡ not (a.low == b.low && a.high == b.high) }
+{
+    word(a) != word(b)
+}
+
+// Both bounds as one word, which is compared faster than they are one by one.
+fn word(row: Row) -> u32
+    ensures { result ≡ row.high * 65536 + row.low }
+{
+    u32::from(row.high) << 16 | u32::from(row.low)
 }

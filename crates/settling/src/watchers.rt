@@ -1,6 +1,6 @@
 // The rules of a family by the cells that they touch.
-ghost use Rattle.std.specs.Prelude.{◌<◌, ◌≤◌};
-ghost use Rattle.settling.specs.Watching.{Watching, Listed};
+ghost use Rattle.std.specs.Prelude.{◌≡◌, ◌<◌, ◌≤◌, length};
+ghost use Rattle.settling.specs.Watching.{Watching, Listed, Touches};
 
 use rule_families::family::Family;
 use rule_sets::rule_set::RuleSet;
@@ -36,10 +36,22 @@ impl Watchers {
         requires cells { cells ≤ 1024 }
         ensures { Listed (F.meaning family.now) cells rule self.old self.new }
     {
-        for cell in 0..cells {
-            if family.touches(rule, cells, cell) {
+        let mut room = [false; MOST_CELLS];
+        let marks = &mut room[..cells];
+        mark_alone(family, rule, cells, marks);
+        for (cell, touched) in marks.iter().enumerate() {
+            if *touched {
                 self.by_cell[cell].insert(rule);
             }
         }
     }
+}
+
+// Marks the cells that the rule touches, and no others.
+fn mark_alone<F: Family>(family: &F, rule: usize, cells: usize, marks: &mut [bool])
+    requires { length marks.old ≡ cells }
+    ensures { Touches (F.meaning family.now) cells rule marks.new }
+{
+    marks.fill(false);
+    family.mark(rule, marks);
 }

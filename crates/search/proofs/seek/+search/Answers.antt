@@ -53,8 +53,11 @@ search-requires g t c κs within =
                 rw (n, is) (omega (arith, tried_room _ _ _ _ d (length c.loop-level.rest) (omega arith))),
                 (
                   subst (λ (k : ℕ). Watching (g.F.Family.meaning c.args.family.now) k c.args.watchers.now) (sym n) c.requires.watching,
-                  subst (λ (x : List Row). Asleep (g.F.Family.meaning c.args.family.now) x (watching c.args.watchers.now c.in-Some.cell)) (sym is)
-                      (fixed_asleep _ _ _ _ d (g.F.Family.lawful c.args.family.now) _ c.requires.watching),
+                  (
+                    subst (λ (x : List Row). Asleep (g.F.Family.meaning c.args.family.now) x (watching c.args.watchers.now c.in-Some.cell)) (sym is)
+                        (fixed_asleep _ _ _ _ d (g.F.Family.lawful c.args.family.now) _ c.requires.watching),
+                    omega (arith, c.requires.before),
+                  ),
                 ),
               ),
             ),
