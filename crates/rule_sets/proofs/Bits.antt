@@ -1,5 +1,5 @@
 -- A bit of the words, set, cleared, joined, and the lowest that is set.
-use Rattle.std.proofs.Common.{◌≡◌, ℕ, ◌+◌, ◌*◌, ◌/◌, ◌%◌, ◌^◌, ◌<◌, ◌≤◌, ◌||◌, ◌&&◌, ltb, max, Bool, true, false, eqb, ◌≢◌, List, length, replicate, zero, suc, cond, position, Some, None, get_or, set, take, bit_and, bit_or, w64, sym, refl, ap, ◌∙◌, inl, inr, arith}
+use Rattle.std.proofs.Common.{◌≡◌, ℕ, ◌-◌, ◌+◌, ◌-◌, ◌*◌, ◌/◌, ◌%◌, ◌^◌, ◌<◌, ◌≤◌, ◌||◌, ◌&&◌, ltb, max, Bool, true, false, eqb, ◌≢◌, List, length, replicate, zero, suc, cond, position, Some, None, get_or, set, take, bit_and, bit_or, w64, sym, refl, ap, ◌∙◌, inl, inr, arith}
 use Rattle.std.proofs.Math.Bool.{or-false}
 use Rattle.std.proofs.lemmas.Bool.{cases_eq, cases_Bool, eqb-true, ltb-true, ltb-false, not-false, true≢false}
 use Rattle.std.proofs.lemmas.List.{get_or-set_same, get_or-set_other, get_or-take, length-take}
@@ -11,7 +11,7 @@ use Rattle.std.proofs.lemmas.Nat.{and_le_l}
 use Rattle.std.proofs.lemmas.Nat.Bits.{bit_at_set_same, bit_at_set_other, bit_at_clear_same, bit_at_clear_other, bit_at-lt, bit_at_or, bit_at-zero, bit_at-trailing_zeros}
 use Rattle.std.specs.Int.{bit_at, bit_not, trailing_zeros}
 use Rattle.rule_sets.specs.declared.rule_set.RuleSet.{RuleSet}
-use Rattle.rule_sets.specs.Members.{has, some_rule, Empty, Inserted, Removed, weight, United, Lowest}
+use Rattle.rule_sets.specs.Members.{has, some_rule, WithBit, WithoutBit, Empty, Inserted, Removed, United, Lowest}
 
 -- the bit of rule r in the words
 abbrev bit : List ℕ → ℕ → ℕ
@@ -31,32 +31,35 @@ module _ (ws : List ℕ) (i w : ℕ) (l : i < length ws) where
 not_both : (b : ℕ) → b ≡ 0 → b ≡ 1 → ⊥
 not_both b zero_ one = omega arith
 
-module _ (s : RuleSet) (r : ℕ) (l : r / 64 < length s.words) where
-  abbrev word : ℕ
-  word = get_or s.words (r / 64) 0
+pub with_bit : (n k : ℕ) → k < 64 → WithBit n k (bit_or n (1 * 2 ^ k % 18446744073709551616))
+with_bit n k l = record { there = bit_at_set_same w64 n k l; others = λ i _ apart. bit_at_set_other w64 n k l i apart }
 
+pub without_bit : (n k : ℕ) → k < 64 → WithoutBit n k (bit_and n (18446744073709551615 - 1 * 2 ^ k % 18446744073709551616))
+without_bit n k l =
+    let m = bit_and n (bit_not w64 (1 * 2 ^ k % 18446744073709551616)) in
+    let gone = bit_at_clear_same w64 n k l in record {
+      gone = gone;
+      others = λ i below apart. bit_at_clear_other w64 n k l i below apart;
+      lighter = λ h.
+          let less : m ≢ n = λ e. not_both (bit_at m k) gone (ap (λ x. bit_at x k) e ∙ h) in
+          omega (arith, and_le_l n (bit_not w64 (1 * 2 ^ k % 18446744073709551616)), less);
+    }
+
+module _ (s : RuleSet) (r w : ℕ) (l : r / 64 < length s.words) where
   apart : (q : ℕ) → q ≢ r → q / 64 ≡ r / 64 → q % 64 ≢ r % 64
   apart q n e f = n (omega arith)
 
-  pub inserted : Inserted s r (record { words = set s.words (r / 64) (bit_or word (1 * 2 ^ (r % 64) % 2 ^ 64)) })
-  inserted = record {
-    there = ap (λ x. eqb x 1) (here s.words (r / 64) _ l r refl ∙ bit_at_set_same w64 word (r % 64) (omega arith));
-    others = λ q n. ap (λ x. eqb x 1) (stays s.words (r / 64) _ l q (λ e. bit_at_set_other w64 word (r % 64) (omega arith) (q % 64) (apart q n e)));
+  pub inserted : WithBit (get_or s.words (r / 64) 0) (r % 64) w → Inserted s r (record { words = set s.words (r / 64) w })
+  inserted h = record {
+    there = ap (λ x. eqb x 1) (here s.words (r / 64) w l r refl ∙ h.there);
+    others = λ q n. ap (λ x. eqb x 1) (stays s.words (r / 64) w l q (λ e. h.others (q % 64) (omega arith) (apart q n e)));
   }
 
-  abbrev cleared : ℕ
-  cleared = bit_and word (bit_not w64 (1 * 2 ^ (r % 64) % 2 ^ 64))
-
-  lighter : bit s.words r ≡ 1 → weight (record { words = set s.words (r / 64) cleared }) < weight s
-  lighter h =
-      let less : cleared ≢ word = λ e. not_both (bit_at cleared (r % 64)) (bit_at_clear_same w64 word (r % 64) (omega arith)) (ap (λ x. bit_at x (r % 64)) e ∙ h) in
-      omega (arith, sum_by-set (λ (x : ℕ). x) s.words (r / 64) cleared 0 l, and_le_l word (bit_not w64 (1 * 2 ^ (r % 64) % 2 ^ 64)), less)
-
-  pub removed : Removed s r (record { words = set s.words (r / 64) cleared })
-  removed = record {
-    gone = ap (λ x. eqb x 1) (here s.words (r / 64) _ l r refl ∙ bit_at_clear_same w64 word (r % 64) (omega arith));
-    others = λ q n. ap (λ x. eqb x 1) (stays s.words (r / 64) _ l q (λ e. bit_at_clear_other w64 word (r % 64) (omega arith) (q % 64) (omega arith) (apart q n e)));
-    lighter = λ h. lighter (eqb-true _ 1 h);
+  pub removed : WithoutBit (get_or s.words (r / 64) 0) (r % 64) w → Removed s r (record { words = set s.words (r / 64) w })
+  removed h = record {
+    gone = ap (λ x. eqb x 1) (here s.words (r / 64) w l r refl ∙ h.gone);
+    others = λ q n. ap (λ x. eqb x 1) (stays s.words (r / 64) w l q (λ e. h.others (q % 64) (omega arith) (apart q n e)));
+    lighter = λ had. omega (arith, sum_by-set (λ (x : ℕ). x) s.words (r / 64) w 0 l, h.lighter (eqb-true _ 1 had));
   }
 
 zeros : (n i : ℕ) → get_or {A = ℕ} (replicate n 0) i 0 ≡ 0

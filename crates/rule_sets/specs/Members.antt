@@ -32,6 +32,16 @@ pub record Removed (s : RuleSet) (r : ℕ) (t : RuleSet) : Type 0 where
   pub others : (q : ℕ) → q ≢ r → has t q ≡ has s q
   pub lighter : has s r ≡ true → weight t < weight s
 
+-- the word with the bit, and without it
+pub record WithBit (n k m : ℕ) : Type 0 where
+  pub there : bit_at m k ≡ 1
+  pub others : (i : ℕ) → i < 64 → i ≢ k → bit_at m i ≡ bit_at n i
+
+pub record WithoutBit (n k m : ℕ) : Type 0 where
+  pub gone : bit_at m k ≡ 0
+  pub others : (i : ℕ) → i < 64 → i ≢ k → bit_at m i ≡ bit_at n i
+  pub lighter : bit_at n k ≡ 1 → m < n
+
 -- of the rules below so many words
 abbrev pub United : RuleSet → RuleSet → ℕ → RuleSet → Type 0
 United s o words t = (r : ℕ) → has t r ≡ (has s r || (nat_lt r (64 * words) && has o r))

@@ -1,6 +1,6 @@
 // Sets of rules.
 ghost use Rattle.std.specs.Prelude.{◌≡◌, ◌<◌, ◌≤◌, take, position};
-ghost use Rattle.rule_sets.specs.Members.{some_rule, Empty, Below, Inserted, Removed, United, Lowest};
+ghost use Rattle.rule_sets.specs.Members.{some_rule, Empty, Below, Inserted, Removed, WithBit, WithoutBit, United, Lowest};
 
 use rule_families::family::MOST_RULES;
 
@@ -14,6 +14,7 @@ pub struct RuleSet {
 }
 
 impl RuleSet {
+    #[tactic(auto, using(crate::proofs::Bits::empty))]
     pub fn none() -> RuleSet
         ensures { Empty result }
     {
@@ -34,21 +35,24 @@ impl RuleSet {
         set
     }
 
+    #[tactic(auto, using(crate::proofs::Bits::inserted))]
     pub fn insert(&mut self, rule: usize)
         requires { rule < 4096 }
         ensures { Inserted self.old rule self.new }
     {
-        self.words[rule / 64] |= 1 << (rule % 64);
+        self.words[rule / 64] = with_bit(self.words[rule / 64], rule % 64);
     }
 
+    #[tactic(auto, using(crate::proofs::Bits::removed))]
     pub fn remove(&mut self, rule: usize)
         requires { rule < 4096 }
         ensures { Removed self.old rule self.new }
     {
-        self.words[rule / 64] &= !(1 << (rule % 64));
+        self.words[rule / 64] = without_bit(self.words[rule / 64], rule % 64);
     }
 
     // Adds the other's rules that are below so many words.
+    #[tactic(auto, using(crate::proofs::Bits::united))]
     pub fn unite(&mut self, other: &RuleSet, words: usize)
         requires { words ≤ 64 }
         ensures { United self.old other.now words self.new }
@@ -73,4 +77,18 @@ impl RuleSet {
     {
         self.words[..words].iter().position(|word| *word != 0)
     }
+}
+
+fn with_bit(word: u64, bit: usize) -> u64
+    requires { bit < 64 }
+    ensures { WithBit word bit result }
+{
+    word | 1 << bit
+}
+
+fn without_bit(word: u64, bit: usize) -> u64
+    requires { bit < 64 }
+    ensures { WithoutBit word bit result }
+{
+    word & !(1 << bit)
 }
