@@ -5,3 +5,4 @@ pub mod Pair
 pub mod Trials
 pub mod Job
 pub mod Sixteen
+pub mod Granted
