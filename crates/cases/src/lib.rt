@@ -1,4 +1,4 @@
-// Boards worked out by hand, each proved to be what the definitions behind the engine's contracts give.
+// Theorems over the definitions behind the engine's contracts: boards worked out by hand, and what a granted job's rules narrow to.
 #![tactic(auto)]
 
 ghost use Rattle.cases.specs.Granted.{GrantedAreExact};
