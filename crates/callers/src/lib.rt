@@ -2,48 +2,49 @@
 // Kept: that the board is left as found is said of it before and after a call, which no type of a board can say.
 #![tactic(auto)]
 
-ghost use Rattle.callers.specs.Trying.{LeftAsFound};
+ghost use Rattle.board.specs.Held.{state};
+ghost use Rattle.callers.specs.Trying.{LeftAsFound, Tells, TellsOfBoth};
+
+mod trial;
 
 use board::board::Board;
 use board::refusal::Refusal;
 
-// Opens a trial, tries the range on the cell, and tells what is seen; then takes it back.
-fn tried<T: Drop, F: FnOnce(&Board, Result<(), Refusal>) -> T>(
-    board: &mut Board,
-    cell: usize,
-    low: u16,
-    high: u16,
-    seen: F,
-) -> Result<T, Refusal>
-    requires { F.IsAlwaysCallable seen }
-    ensures { LeftAsFound board.old board.new }
-{
-    let slip = board.open()?;
-    let tightened = board.tighten(cell, low, high);
-    let told = seen(board, tightened);
-    let _ = board.drop(slip);
-    Ok(told)
-}
-
 // Whether the range leaves the cell a count, tried and taken back.
 pub fn leaves_a_count(board: &mut Board, cell: usize, low: u16, high: u16) -> Result<bool, Refusal>
-    ensures { LeftAsFound board.old board.new }
+    ensures left { LeftAsFound board.old board.new }
+    ensures told { Tells (state board.old) cell low high result }
 {
-    tried(board, cell, low, high, |trial, tightened| {
-        tightened.map(|()| !trial.is_void())
-    })?
+    let slip = trial::open(board)?;
+    if let Err(why) = trial::tighten(board, cell, low, high) {
+        // A refused range spends the slip here: past the return nobody has it.
+        trial::drop(board, slip);
+        return Err(why);
+    }
+    let left = !board.is_void();
+    trial::drop(board, slip);
+    Ok(left)
 }
 
-// Whether the board grants each end of the range as the cell's only count, each tried and taken back.
+// Whether the cell may have each end of the range as its count, tried one after the other and taken back.
 pub fn grants_both_ends(
     board: &mut Board,
     cell: usize,
     low: u16,
     high: u16,
 ) -> Result<bool, Refusal>
-    ensures { LeftAsFound board.old board.new }
+    ensures left { LeftAsFound board.old board.new }
+    ensures told { TellsOfBoth (state board.old) cell low high result }
 {
-    let at_low = tried(board, cell, low, low, |_, tightened| tightened.is_ok())?;
-    let at_high = tried(board, cell, high, high, |_, tightened| tightened.is_ok())?;
-    Ok(at_low & at_high)
+    let first = trial::open(board)?;
+    let at_low = trial::leaves_a_count(board, cell, low, low);
+    trial::drop(board, first);
+    if !at_low? {
+        return Ok(false);
+    }
+    // The first slip is spent: the other end takes a trial of its own.
+    let second = trial::open(board)?;
+    let at_high = trial::leaves_a_count(board, cell, high, high);
+    trial::drop(board, second);
+    at_high
 }

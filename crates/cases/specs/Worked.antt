@@ -1,6 +1,6 @@
 -- Boards worked out by hand: the bytes of the rules' records, and the rows before and after. The counts of a plate stand in
 -- the cells from 0 on, then its slots, then its variety.
-use Rattle.std.specs.Prelude.{◌≡◌, ℕ, true, false, List, [], ◌∷◌, ◌++◌}
+use Rattle.std.specs.Prelude.{◌≡◌, ℕ, zero, suc, true, false, List, [], ◌∷◌, ◌++◌, map}
 use Rattle.bounds.specs.declared.row.Row.{Row}
 use Rattle.bounds.specs.Boards.{void, cells, Fills}
 use Rattle.bounds.specs.Laws.{Meaning}
@@ -8,11 +8,13 @@ use Rattle.bounds.specs.Beside.{beside}
 use Rattle.settling.specs.declared.settled.Settled.TheVariants.{Settled, Void}
 use Rattle.settling.specs.Settles.{Settles}
 use Rattle.settling.specs.Plans.{First}
-use Rattle.board.specs.Calls.{Trial, as_read, drop, Event, refused, tightened, opened, dropped, settled}
+use Rattle.board.specs.Calls.{State, Trial, as_read, opening, drop, Event, refused, tightened, opened, dropped, settled}
 use Rattle.plates.specs.Plates.{plates}
 use Rattle.plates.specs.Worked.{two_designs, three_designs, one_alone, others_out, two_of_three, too_few}
 use Rattle.triples.specs.Triples.{triples}
 use Rattle.linear.specs.Totals.{totals}
+use Rattle.job.specs.Reading.{Found, reading, granted}
+use Rattle.job.specs.Tallies.{row_at}
 use Rattle.run.specs.Runs.{Leads}
 
 abbrev pub row : ℕ → ℕ → Row
@@ -136,6 +138,45 @@ pub record TwoTrials : Type 0 where
   pub after : Leads (plate two_designs) (as_read job) to_refusal
       (record { is_void = false; rows = job; given = 2; trials = [] })
 
+-- the job file of 45 bytes that the planner is shipped with: four cells of 0 to 2, but the third of 3, and a plate with its
+-- slots there, its variety in the last and its counts in the first two
+abbrev pub first_file : List ℕ
+first_file = 2 ∷ (1 ∷ 19 ∷ 0 ∷ 0 ∷ 0 ∷ 16 ∷ 0 ∷ 0 ∷ 0 ∷ []) ++ (2 ∷ 35 ∷ 0 ∷ 0 ∷ 0 ∷ 10 ∷ 0 ∷ 0 ∷ 0 ∷ [])
+    ++ (0 ∷ 0 ∷ 2 ∷ 0 ∷ 0 ∷ 0 ∷ 2 ∷ 0 ∷ 3 ∷ 0 ∷ 3 ∷ 0 ∷ 0 ∷ 0 ∷ 2 ∷ 0 ∷ []) ++ (2 ∷ 0 ∷ 3 ∷ 0 ∷ 2 ∷ 0 ∷ 0 ∷ 0 ∷ 1 ∷ 0 ∷ [])
+
+abbrev pub first_found : Found
+first_found = record { cells = 19 ∷ 23 ∷ 27 ∷ 31 ∷ []; plates = 35 ∷ []; triples = []; totals = [] }
+
+abbrev pub first_rules : Meaning
+first_rules = beside (plates first_file first_found.plates) (beside (triples first_file first_found.triples) (totals first_file first_found.totals))
+
+abbrev pub first_rows : List Row
+first_rows = row 0 2 ∷ row 0 2 ∷ row 3 3 ∷ row 0 2 ∷ []
+
+-- The file is granted; one narrowing leaves a count of 1 or 2 to each design, and the first plan has 1 and 2.
+pub record FirstJob : Type 0 where
+  pub reads : reading first_file ≡ granted first_found
+  pub rows : map (row_at first_file) first_found.cells ≡ first_rows
+  pub settles : Settles first_rules first_rows job (Settled 1)
+  pub plan : First first_rules (λ p. Fills p job) (1 ∷ 2 ∷ 3 ∷ 2 ∷ [])
+
+-- n trials are opened one after the other, and leave their slips' serials and what they saved
+abbrev pub openings : ℕ → List Event
+openings zero = []
+openings (suc n) = opened (suc n) ∷ openings n
+
+abbrev pub opened_to : ℕ → List Trial
+opened_to zero = []
+opened_to (suc n) = trial (suc n) job ∷ opened_to n
+
+abbrev pub with_open : ℕ → State
+with_open n = record { is_void = false; rows = job; given = n; trials = opened_to n }
+
+-- A sixteenth trial opens, and the next is refused.
+pub record SixteenTrials : Type 0 where
+  pub sixteen : Leads (plate two_designs) (as_read job) (openings 16) (with_open 16)
+  pub next : Leads (plate two_designs) (as_read job) (refused opening 12 ∷ openings 16) (with_open 16)
+
 pub record Worked : Type 0 where
   pub one_alone : OneAlone
   pub any_two : AnyTwo
@@ -145,3 +186,5 @@ pub record Worked : Type 0 where
   pub three_by_twos : ThreeByTwos
   pub plate_and_subset : PlateAndSubset
   pub two_trials : TwoTrials
+  pub first_job : FirstJob
+  pub sixteen_trials : SixteenTrials

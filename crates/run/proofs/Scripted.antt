@@ -1,6 +1,7 @@
 -- Calls of a script, one more at a time.
-use Rattle.std.proofs.Common.{◌≡◌, ℕ, ◌+◌, ◌*◌, ◌<◌, Bool, true, false, cond, List, [], ◌∷◌, ◌++◌, length, get_or, take, drop, vec_items, sym, refl, ap, ◌∙◌, subst, ap₂}
+use Rattle.std.proofs.Common.{◌≡◌, ℕ, ◌+◌, ◌*◌, ◌<◌, Bool, true, false, cond, List, [], ◌∷◌, ◌++◌, length, slice_get, get_or, take, drop, Some, vec_items, sym, refl, ap, ◌∙◌, subst, ap₂}
 use Rattle.std.proofs.lemmas.List.{take_more}
+use Rattle.std.proofs.lemmas.Option.{get_or_from_slice_get, slice_get_within}
 use Rattle.std.proofs.lemmas.Bool.{true≢false}
 use Rattle.bounds.specs.declared.row.Row.{Row}
 use Rattle.bounds.specs.Laws.{Meaning, FiveLaws}
@@ -65,3 +66,13 @@ module _ (m : Meaning) (laws : FiveLaws m) (b : Board) (p : List ℕ) (s : List 
       subst (λ (ys : List Answer). Ran m b d p r s u (take (i + 1) script) ys) (sym is)
       (subst (λ (xs : List Call). Ran m b d p r s u xs (answers ++ a ∷ [])) (sym (take_more script i x lt))
       (ran_more c d q r t u (take i script) answers (get_or script i x) a len same ran made))
+
+-- the same of whatever ran up to here
+pub ran_on : (m : Meaning) → FiveLaws m → (b c : Board) (p q : List ℕ) (s t : List Row) (x : Call) (a : Answer) (noted more : List Answer)
+    → more ≡ noted ++ a ∷ [] → Made m b c p q s t x a
+    → (start : Board) (plan : List ℕ) (scratch : List Row) (script : List Call) (i : ℕ) → slice_get script i ≡ Some x
+    → length p ≡ length plan → length s ≡ length scratch → Ran m start b plan p scratch s (take i script) noted
+    → Ran m start c plan q scratch t (take (i + 1) script) more
+ran_on m laws b c p q s t x a noted more items made start plan scratch script i is lp ls ran =
+    ran_next m laws start plan scratch b c p q s t script i x noted more a (slice_get_within script i x is) lp ls items ran
+    (subst (λ (y : Call). Made m b c p q s t y a) (sym (get_or_from_slice_get script i x x is)) made)

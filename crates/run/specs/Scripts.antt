@@ -1,10 +1,10 @@
 -- A script's calls, with their answers, as events.
-use Rattle.std.specs.Prelude.{◌≡◌, ℕ, ◌*◌, ◌<◌, Bool, true, false, cond, List, [], ◌∷◌, ◌++◌, length, take, drop, Ok, Err, vec_items, vec_len, Result, Vec}
+use Rattle.std.specs.Prelude.{◌≡◌, ℕ, ◌+◌, ◌*◌, ◌<◌, Bool, true, false, cond, List, [], ◌∷◌, ◌++◌, length, slice_get, take, drop, Some, Ok, Err, vec_items, vec_len, Result, Vec}
 use Rattle.std.specs.declared.alloc.Global.{Global}
 use Rattle.std.specs.declared.alloc.AllocError.{AllocError}
 use Rattle.bounds.specs.declared.row.Row.{Row}
 use Rattle.bounds.specs.Boards.{sound}
-use Rattle.bounds.specs.Laws.{Meaning}
+use Rattle.bounds.specs.Laws.{Meaning, FiveLaws}
 use Rattle.board.specs.declared.board.Board.{Board}
 use Rattle.board.specs.declared.refusal.Refusal.{Refusal}
 use Rattle.board.specs.Calls as calls
@@ -85,6 +85,10 @@ pub record Made (m : Meaning) (b c : Board) (p q : List ℕ) (s t : List Row) (x
   pub keeps : (job : List Row) → sound job ≡ true → (es : List Event) (earlier : Run m job es (state b))
       → Kept m job (event ∷ es) (state c) (then earlier event (state c) does)
 
+-- the call was made and answered, whatever the family and the memory lent
+abbrev pub MadeAlone : Board → Board → Call → Answer → Type 0
+MadeAlone b c x a = (m : Meaning) → FiveLaws m → (p : List ℕ) (s : List Row) → Made m b c p p s s x a
+
 -- the call was made and answered, or for want of memory it was not, and nothing changed
 abbrev pub Steps : Meaning → Board → Board → List ℕ → List ℕ → List Row → List Row → Call → Result Answer AllocError → Type 0
 Steps m b c p q s t x (Ok a) = Made m b c p q s t x a
@@ -122,3 +126,13 @@ abbrev pub Runs : Meaning → Board → Board → List ℕ → List ℕ → List
 Runs m b c p q s t xs (Ok v) = Ran m b c p q s t xs (vec_items v)
 Runs m b c p q s t xs (Err h) =
     let n = vec_len h.answers in (n < length xs) × Ran m b c p q s t (take n xs) (vec_items h.answers)
+
+-- The call x was made and its answer noted, or for want of memory it was not, and nothing changed. Made: whatever ran up to
+-- here of a script whose next call is x ran on to it.
+abbrev pub RunsOn : Meaning → Board → Board → List ℕ → List ℕ → List Row → List Row → Call → Vec Answer Global → Vec Answer Global → Result (Unit {0}) AllocError → Type 0
+RunsOn m b c p q s t x noted more (Ok u) =
+    (vec_len more ≡ vec_len noted + 1)
+    × ((start : Board) (plan : List ℕ) (scratch : List Row) (script : List Call) (i : ℕ) → slice_get script i ≡ Some x
+    → length p ≡ length plan → length s ≡ length scratch → Ran m start b plan p scratch s (take i script) (vec_items noted)
+    → Ran m start c plan q scratch t (take (i + 1) script) (vec_items more))
+RunsOn m b c p q s t x noted more (Err e) = (vec_items more ≡ vec_items noted) × (vec_len more ≡ vec_len noted) × (c ≡ b) × (q ≡ p) × (t ≡ s)

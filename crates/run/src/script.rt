@@ -1,6 +1,6 @@
 // Scripts of calls on a board.
 ghost use Rattle.run.specs.Promise.{Promise, Accounts, Determined};
-ghost use Rattle.run.specs.Scripts.{Runs};
+ghost use Rattle.run.specs.Scripts.{Runs, RunsOn};
 
 use crate::answer::Answer;
 use crate::call::Call;
@@ -9,7 +9,7 @@ use crate::step::step;
 use board::board::Board;
 use bounds::row::Row;
 use rule_families::family::Family;
-use std::alloc::Global;
+use std::alloc::{AllocError, Global};
 
 // Makes the calls of the script in turn on the board, up to one for whose answer there is no memory.
 // Kept: plan memory and scratch are two slices, as seek takes them; heap, board and family have other owners each.
@@ -29,14 +29,29 @@ pub fn run<F: Family>(
 {
     let mut answers = Vec::new(heap);
     for call in script {
-        // The room for an answer comes first, so that a call that is made is answered.
-        if answers.reserve(1).is_err() {
+        let Ok(()) = run_on(heap, board, family, *call, plan, scratch, &mut answers) else {
             return Err(Halted { answers });
-        }
-        match step(heap, board, family, *call, plan, scratch) {
-            Ok(answer) => answers.push_reserved(answer),
-            Err(_) => return Err(Halted { answers }),
-        }
+        };
     }
     Ok(answers)
+}
+
+// Makes one call more and notes its answer. Without memory for that it is not made.
+// Kept: plan memory and scratch are two slices, as seek takes them.
+fn run_on<F: Family>(
+    heap: Global,
+    board: &mut Board,
+    family: &F,
+    call: Call,
+    plan: &mut [u16],
+    scratch: &mut [Row],
+    answers: &mut Vec<Answer>,
+) -> Result<(), AllocError>
+    ensures { RunsOn (F.meaning family.now) board.old board.new plan.old plan.new scratch.old scratch.new call answers.old answers.new result }
+{
+    // The room for an answer comes first, so that a call that is made is answered.
+    answers.reserve(1)?;
+    let answer = step(heap, board, family, call, plan, scratch)?;
+    answers.push_reserved(answer);
+    Ok(())
 }

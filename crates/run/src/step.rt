@@ -1,7 +1,7 @@
 // One call of a script.
 ghost use Rattle.std.specs.Prelude.{◌≡◌, ◌≤◌, [], length, take, vec_capacity, MatchResult};
 ghost use Rattle.run.specs.Results.{of_ask};
-ghost use Rattle.run.specs.Scripts.{Steps};
+ghost use Rattle.run.specs.Scripts.{MadeAlone, Steps};
 
 use crate::answer::Answer;
 use crate::call::Call;
@@ -29,12 +29,25 @@ pub fn step<F: Family>(
     match call {
         Call::Tighten { cell, low, high } => Ok(board.tighten(cell, low, high).into()),
         Call::Open => Ok(board.open().into()),
-        Call::Keep(serial) => Ok(board.keep(Slip::of(serial)).into()),
-        Call::Drop(serial) => Ok(board.drop(Slip::of(serial)).into()),
+        Call::Keep(serial) => Ok(kept(board, serial)),
+        Call::Drop(serial) => Ok(dropped(board, serial)),
         Call::Ask(cell) => Ok(asked(cell, board.ask(cell))),
         Call::Settle => Ok(board.settle(family).into()),
         Call::Seek => sought(heap, board, family, plan, scratch),
     }
+}
+
+// A script names a trial by its serial, which is made a slip again.
+fn kept(board: &mut Board, serial: u32) -> Answer
+    ensures { MadeAlone board.old board.new (Call.Keep serial) result }
+{
+    board.keep(Slip::of(serial)).into()
+}
+
+fn dropped(board: &mut Board, serial: u32) -> Answer
+    ensures { MadeAlone board.old board.new (Call.Drop serial) result }
+{
+    board.drop(Slip::of(serial)).into()
 }
 
 fn sought<F: Family>(

@@ -1,4 +1,4 @@
-use Rattle.run.proofs.Makes.{stays_same, stays_saved, stays_opened, made_tighten, made_open, made_keep, made_drop, made_ask, made_settle}
+use Rattle.run.proofs.Makes.{stays_same, stays_saved, stays_opened, made_tighten, made_open, made_ask, made_settle}
 use Rattle.run.proofs.step.step.Goals as goal
 
 pub returns-in-Tighten : goal.returns-in-Tighten
@@ -12,18 +12,6 @@ returns-in-Open g c =
     let e = c.open.ensures in let m = g.F.Family.meaning c.args.family.now in
     made_open m (g.F.Family.lawful c.args.family.now) _ _ _ _ _ _ c.open.result
     c.in-Open.is c.into-in-Open.ensures (e.does m) (stays_opened _ _ e.frame m c.open.result (e.does m) e.outside e.refused)
-
-pub returns-in-Keep : goal.returns-in-Keep
-returns-in-Keep g c =
-    let e = c.keep.ensures in let m = g.F.Family.meaning c.args.family.now in
-    made_keep m (g.F.Family.lawful c.args.family.now) _ _ _ _ _ _ _ c.of.result c.keep.result
-    c.in-Keep.is c.of.ensures c.into-in-Keep.ensures (e.does m) (stays_saved _ _ e.memory.frame e.memory.saved)
-
-pub returns-in-Drop : goal.returns-in-Drop
-returns-in-Drop g c =
-    let e = c.drop.ensures in let m = g.F.Family.meaning c.args.family.now in
-    made_drop m (g.F.Family.lawful c.args.family.now) _ _ _ _ _ _ _ c.of-in-Drop.result c.drop.result
-    c.in-Drop.is c.of-in-Drop.ensures c.into-in-Drop.ensures (e.does m) (stays_saved _ _ e.memory.frame e.memory.saved)
 
 pub returns-in-Ask : goal.returns-in-Ask
 returns-in-Ask g c =

@@ -1,19 +1,15 @@
--- Dropping a trial's slip goes back to where it was opened, whatever was tightened since.
+-- Stated of what this crate defines, and used by none of its proofs: dropping a trial's slip goes back to where it was
+-- opened, whatever was tightened since.
 use Rattle.std.proofs.Common.{◌≡◌, ℕ, ◌+◌, true, cond, eqb, leb, ◌∷◌, get_or, Ok, Err, Result, sym, refl, ap, ◌∙◌, arith}
 use Rattle.std.proofs.lemmas.Bool.{cond_both, cond-true, eq-eqb}
 use Rattle.bounds.specs.Boards.{void, cells, none_row}
 use Rattle.bounds.specs.Cells.{common}
-use Rattle.bounds.specs.Laws.{Meaning, idle}
 use Rattle.board.specs.declared.refusal.Refusal.{Refusal}
 use Rattle.board.specs.declared.board.trials.Slip.{Slip}
 use Rattle.board.specs.Calls.{State, Trial, board, is_open, older, at, refusal, drop, opened, Does}
 use Rattle.board.specs.Held.{state, event_of_tighten, event_of_drop}
 use Rattle.board.specs.declared.board.Board.{Board as Held}
-use Rattle.callers.specs.Trying.{LeftAsFound}
-
--- any family will do
-abbrev pub none : Meaning
-none = record { size = 0; rule = λ _. idle }
+use Rattle.callers.specs.Trying.{LeftAsFound, none}
 
 tighten_trials : (s t : State) (c l h : ℕ) (r : Result (Unit {0}) Refusal) → Does none s (event_of_tighten c l h r) t → t.trials ≡ s.trials
 tighten_trials s t c l h (Err e) d = ap (λ (x : State). x.trials) d.2
