@@ -26,7 +26,15 @@ pub trait Family {
 
     // Marks the cells that the rule touches, on a board of as many cells as there are marks.
     fn mark(&self, rule: usize, marks: &mut [bool])
-        ensures { Marks ((meaning self.now).rule rule) marks.old marks.new };
+        ensures { Marks ((meaning self.now).rule rule) marks.old marks.new }
+    {
+        let cells = marks.len();
+        for (cell, marked) in marks.iter_mut().enumerate() {
+            if self.touches(rule, cells, cell) {
+                *marked = true;
+            }
+        }
+    }
 
     // The rows are narrowed in place; where the rule has no filling left they stay as they were.
     // Kept: memory holds plain rows, so that they are sound is asked here and of all that hands them on, and no type says it.
