@@ -10,6 +10,7 @@ mod cut;
 mod fields;
 mod numbers;
 mod order;
+mod room;
 
 // How many cells and rules of each kind a job has.
 #[derive(Clone, Copy, PartialEq, Eq, Debug)]
