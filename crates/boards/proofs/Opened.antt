@@ -1,6 +1,5 @@
 -- The board that is made of the memory into which a job's rows were written.
 use Rattle.std.proofs.Common.{◌≡◌, ℕ, suc, ◌+◌, ◌<◌, ◌≤◌, Bool, true, false, cond, ◌&&◌, leb, ◌⊎◌, inl, inr, ◌*◌, List, [], ◌∷◌, get_or, Option, MatchOption, refl, ap₂, length, take, drop, Some, None, Ok, Err, vec_items, vec_len, Result, Vec, sym, ap, ◌∙◌, arith}
-use Rattle.std.specs.Result.{is_err}
 use Rattle.std.specs.Vec.{with_items}
 use Rattle.std.specs.declared.alloc.Global.{Global}
 use Rattle.std.proofs.lemmas.List.{with_items_is, length-map, take_more, take_more_set, length-take-le}
@@ -12,13 +11,13 @@ use Rattle.board.specs.declared.board.Board.{Board}
 use Rattle.board.specs.declared.unfit.Refused.{Refused}
 use Rattle.board.specs.Calls.{as_read}
 use Rattle.board.specs.declared.unfit.Unfit.{Unfit}
-use Rattle.board.specs.declared.unfit.Unfit.TheVariants.{Size, Room, Unsound}
+use Rattle.board.specs.declared.unfit.Unfit.TheVariants.{Size, Room}
 use Rattle.std.proofs.lemmas.Bool.{cond-true, cond-false, and_from, and_parts, and_left, and_right, le-leb, lt-leb, leb-true}
-use Rattle.board.specs.Makes.{unfit, roomless, Tells, Makes}
+use Rattle.board.specs.Makes.{unfit, roomless, Makes}
 use Rattle.job.specs.declared.job.Job.{Job}
 use Rattle.job.specs.Jobs.{job_file, job_found}
 use Rattle.job.specs.Tallies.{row_at}
-use Rattle.boards.specs.Opening.{job_rows, Opens, HasRoom}
+use Rattle.boards.specs.Opening.{job_rows, Opens}
 
 pub rows_counted : (j : Job) → length (job_rows j) ≡ length (job_found j).cells
 unfolding job_rows
@@ -40,47 +39,37 @@ some_few j =
 none_some : {A : Type 0} (why : Unfit) → ◌≡◌ {A = Option Unfit} None (Some why) → A
 none_some why e = let z : ◌≡◌ {A = ℕ} 0 1 = cc in absurd (omega arith)
 
-true_false : {A : Type 0} → true ≡ false → A
-true_false e = let z : ◌≡◌ {A = ℕ} 0 1 = cc in absurd (omega arith)
-
--- of rows that hold counts, so many that they make a board, the sizes of the memory alone decide
-enough : (size room sound : Bool) → sound ≡ true → cond size (cond room None (Some Room)) (Some Size) ≡ None
-    → (room ≡ true) × (cond size (cond room (cond sound None (Some Unsound)) (Some Room)) (Some Size) ≡ None)
-enough true true true s e = (refl, refl)
-enough true true false s e = true_false (sym s)
-enough true false sound s e = none_some _ (sym e)
-enough false room sound s e = none_some _ (sym e)
+-- the sizes leave room only where the memory is enough
+enough : (size room : Bool) → cond size (cond room None (Some Room)) (Some Size) ≡ None → room ≡ true
+enough true true e = refl
+enough true false e = none_some _ (sym e)
+enough false room e = none_some _ (sym e)
 
 pub roomless_job : (j : Job) (room trial_room : ℕ) → (room < length (job_rows j)) ⊎ (trial_room < 16 * length (job_rows j))
     → unfit (length (job_rows j)) (job_rows j) room trial_room ≡ Some Room
 roomless_job j room trial_room h =
     let n = length (job_rows j) in
-    cond-true _ _ _ (some_few j) ∙ cond-false _ _ _ (elim h [ inl l ↦ and_left (leb n room) (leb (16 * n) trial_room) (lt-leb n room l) | inr l ↦ and_right (leb n room) (leb (16 * n) trial_room) (lt-leb (16 * n) trial_room l) ])
+    cond-true _ _ _ (some_few j) ∙ cond-false _ _ _ (elim h [
+      | inl l ↦ and_left (leb n room) (leb (16 * n) trial_room) (lt-leb n room l)
+      | inr l ↦ and_right (leb n room) (leb (16 * n) trial_room) (lt-leb (16 * n) trial_room l)
+    ])
+
+ample : (n room trial_room : ℕ) → n ≤ room → 16 * n ≤ trial_room → (leb n room && leb (16 * n) trial_room) ≡ true
+ample n room trial_room h g = and_from (leb n room) (leb (16 * n) trial_room) (le-leb n room h) (le-leb (16 * n) trial_room g)
 
 pub fitting : (j : Job) (room trial_room : ℕ) → length (job_rows j) ≤ room → 16 * length (job_rows j) ≤ trial_room
     → roomless (length (job_rows j)) room trial_room ≡ None
-fitting j room trial_room h g =
-    let n = length (job_rows j) in
-    cond-true _ _ _ (some_few j) ∙ cond-true _ _ _ (and_from (leb n room) (leb (16 * n) trial_room) (le-leb n room h) (le-leb (16 * n) trial_room g))
+fitting j room trial_room h g = cond-true _ _ _ (some_few j) ∙ cond-true _ _ _ (ample _ _ _ h g)
 
-pub roomy : (j : Job) (room trial_room : ℕ) → roomless (length (job_rows j)) room trial_room ≡ None
-    → (unfit (length (job_rows j)) (job_rows j) room trial_room ≡ None) × (length (job_rows j) ≤ room) × (16 * length (job_rows j) ≤ trial_room)
+pub roomy : (j : Job) (room trial_room : ℕ) → roomless (length (job_rows j)) room trial_room ≡ None → (length (job_rows j) ≤ room) × (16 * length (job_rows j) ≤ trial_room)
 roomy j room trial_room none =
     let n = length (job_rows j) in
-    let (on, fits) = enough _ _ (sound (job_rows j)) (sound_rows j) none in
-    let all = and_parts (leb n room) (leb (16 * n) trial_room) on in
-    (fits, leb-true _ _ all.0, leb-true _ _ all.1)
+    let all = and_parts (leb n room) (leb (16 * n) trial_room) (enough _ _ none) in
+    (leb-true _ _ all.0, leb-true _ _ all.1)
 
--- sizes that were found to do leave memory fit for the job
-pub has_fit : (j : Job) (room trial_room n a b : ℕ) (r : Result (Unit {0}) Unfit) → n ≡ length (job_rows j) → a ≡ room → b ≡ trial_room
-    → Tells (roomless n a b) r → is_err r ≡ false → unfit (length (job_rows j)) (job_rows j) room trial_room ≡ None
-has_fit j room trial_room n a b (Ok x) l p q none e = (roomy j room trial_room (sym (λ i. roomless (l i) (p i) (q i)) ∙ none)).0
-has_fit j room trial_room n a b (Err why) l p q some e = true_false e
-
--- of what is granted that there was room, when the sizes were found to do
-pub has_room : (j : Job) (rows saved : Vec Row Global) (b : Board) → roomless (length (job_rows j)) (vec_len rows) (vec_len saved) ≡ None
-    → HasRoom (job_rows j) rows saved (Ok b)
-has_room j rows saved b none = let (_, rows_room, trial_room) = roomy j _ _ none in (rows_room, trial_room)
+pub fits_job : (j : Job) (room trial_room : ℕ) → length (job_rows j) ≤ room → 16 * length (job_rows j) ≤ trial_room
+    → unfit (length (job_rows j)) (job_rows j) room trial_room ≡ None
+fits_job j room trial_room h g = cond-true _ _ _ (some_few j) ∙ cond-true _ _ _ (ample _ _ _ h g) ∙ cond-true _ _ _ (sound_rows j)
 
 -- the board over memory into whose front the job's rows were written
 module _ (job : List Row) (rows saved : Vec Row Global) (ws : List Row) (n : ℕ) (long : length ws ≡ vec_len rows)

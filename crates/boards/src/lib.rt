@@ -1,7 +1,7 @@
 // The board of a job, in memory that is handed in.
 #![tactic(auto)]
 
-ghost use Rattle.std.specs.Prelude.{◌≡◌, ◌≤◌, length, take, drop, IfErr, slice_index_or};
+ghost use Rattle.std.specs.Prelude.{◌≡◌, ◌*◌, ◌<◌, ◌≤◌, true, false, ◌⊎◌, length, take, drop, Ok, IfErr, vec_len, slice_index_or};
 ghost use Rattle.bounds.specs.Boards.{none_row};
 ghost use Rattle.job.specs.Jobs.{job_file};
 ghost use Rattle.boards.specs.Opening.{job_rows, no_room, Opens, HasRoom};
@@ -21,27 +21,44 @@ pub struct NoRoom {
 }
 
 // The board as read. Where the memory is too small it comes back untouched.
-#[tactic(auto, using(crate::proofs::Opened::opened, crate::proofs::Opened::rows_counted, crate::proofs::Opened::roomless_job, crate::proofs::Opened::roomy, crate::proofs::Opened::has_room, crate::proofs::Opened::fitting))]
+#[tactic(auto, using(crate::proofs::Opened::roomless_job))]
 pub fn board_of(job: &Job<'_>, rows: Vec<Row>, saved: Vec<Row>) -> Result<Board, NoRoom>
     ensures opens { Opens (job_rows job.now) rows saved result }
     ensures room { HasRoom (job_rows job.now) rows saved result }
     ensures told { IfErr result (λ e. e.refused ≡ no_room (job_file job.now)) }
 {
-    let cells = usize::from(job.cells());
-    if room_for(cells, rows.len(), saved.len()).is_err() {
-        let refused = room_refused(job);
+    if !has_room(job, &rows, &saved) {
         return Err(NoRoom {
-            refused,
+            refused: room_refused(job),
             rows,
             saved,
         });
     }
+    Ok(laid_out(job, rows, saved))
+}
+
+// Whether the board memory holds the job's cells, and the trial memory 16 times that.
+#[tactic(auto, using(crate::proofs::Opened::rows_counted, crate::proofs::Opened::roomy, crate::proofs::Opened::fitting))]
+fn has_room(job: &Job<'_>, rows: &[Row], saved: &[Row]) -> bool
+    ensures enough { result ≡ true → (length (job_rows job.now) ≤ length rows.now) × (16 * length (job_rows job.now) ≤ length saved.now) }
+    ensures short { result ≡ false → (length rows.now < length (job_rows job.now)) ⊎ (length saved.now < 16 * length (job_rows job.now)) }
+{
+    let cells = usize::from(job.cells());
+    room_for(cells, rows.len(), saved.len()).is_ok()
+}
+
+// The board over memory that has room, with the job's rows at its front.
+fn laid_out(job: &Job<'_>, rows: Vec<Row>, saved: Vec<Row>) -> Board
+    requires rows { length (job_rows job.now) ≤ vec_len rows }
+    requires trials { 16 * length (job_rows job.now) ≤ vec_len saved }
+    ensures { Opens (job_rows job.now) rows saved (Ok result) }
+{
     let mut rows = rows;
     fill(job, &mut rows);
-    let Ok(board) = Board::over(rows, saved, cells) else {
+    let Ok(board) = Board::over(rows, saved, usize::from(job.cells())) else {
         unreachable!()
     };
-    Ok(board)
+    board
 }
 
 // Line 8, at the file's length.
