@@ -8,7 +8,7 @@ use boards::board_of;
 use console::families::rules_of;
 use console::room::Room;
 use job::job::Job;
-use lines::{Line, NoCall};
+use lines::Line;
 use records::refused::Refused;
 use run::script::run;
 use std::io::{BufRead, BufReader};
@@ -54,14 +54,14 @@ fn answer_all(rt: &HostRuntime, job: &Job<'_>) -> anyhow::Result<()> {
     let lines = BufReader::new(heap, rt.stdin())?.lines(heap);
     for (number, line) in (1u64..).zip(lines) {
         let line = line?;
-        match line.as_str().parse() {
-            Ok(Line::Call(call)) => {
+        match Line::read(heap, line.as_str())? {
+            Some(Line::Call(call)) => {
                 for answer in &run(heap, &mut board, &rules, &[call], &mut plan, &mut scratch)? {
                     rt.println(answer)?;
                 }
             }
-            Ok(Line::Help) => rt.print(HELP)?,
-            Err(NoCall) => println!(rt; "not a call: line {number}: {line}")?,
+            Some(Line::Help) => rt.print(HELP)?,
+            None => println!(rt; "not a call: line {number}: {line}")?,
         }
     }
     Ok(())
