@@ -11,13 +11,13 @@ use Rattle.board.specs.declared.board.Board.{Board}
 use Rattle.board.specs.declared.unfit.Refused.{Refused}
 use Rattle.board.specs.Calls.{as_read}
 use Rattle.board.specs.declared.unfit.Unfit.{Unfit}
-use Rattle.board.specs.declared.unfit.Unfit.TheVariants.{Size, Room, Unsound}
-use Rattle.std.proofs.lemmas.Bool.{cond-true, and_from, and_parts, and_cases, le-leb, leb-true, leb-false}
+use Rattle.board.specs.declared.unfit.Unfit.TheVariants.{Size, Room}
+use Rattle.std.proofs.lemmas.Bool.{cond-true, cond-false, and_from, and_parts, and_left, and_right, le-leb, lt-leb, leb-true}
 use Rattle.board.specs.Makes.{unfit, roomless, Makes}
 use Rattle.job.specs.declared.job.Job.{Job}
 use Rattle.job.specs.Jobs.{job_file, job_found}
 use Rattle.job.specs.Tallies.{row_at}
-use Rattle.boards.specs.Opening.{job_rows, Opens, HasRoom}
+use Rattle.boards.specs.Opening.{job_rows, Opens}
 
 pub rows_counted : (j : Job) → length (job_rows j) ≡ length (job_found j).cells
 unfolding job_rows
@@ -39,53 +39,37 @@ some_few j =
 none_some : {A : Type 0} (why : Unfit) → ◌≡◌ {A = Option Unfit} None (Some why) → A
 none_some why e = let z : ◌≡◌ {A = ℕ} 0 1 = cc in absurd (omega arith)
 
-true_false : {A : Type 0} → true ≡ false → A
-true_false e = let z : ◌≡◌ {A = ℕ} 0 1 = cc in absurd (omega arith)
+-- the sizes leave room only where the memory is enough
+enough : (size room : Bool) → cond size (cond room None (Some Room)) (Some Size) ≡ None → room ≡ true
+enough true true e = refl
+enough true false e = none_some _ (sym e)
+enough false room e = none_some _ (sym e)
 
--- of rows that hold counts, so many that they make a board, the sizes of the memory alone decide
-sizes : (size room sound : Bool) (why : Unfit) → size ≡ true → cond size (cond room None (Some Room)) (Some Size) ≡ Some why
-    → (room ≡ false) × (cond size (cond room (cond sound None (Some Unsound)) (Some Room)) (Some Size) ≡ Some why)
-sizes true true sound why s e = none_some why e
-sizes true false sound why s e = (refl, e)
-sizes false room sound why s e = true_false (sym s)
+pub roomless_job : (j : Job) (room trial_room : ℕ) → (room < length (job_rows j)) ⊎ (trial_room < 16 * length (job_rows j))
+    → unfit (length (job_rows j)) (job_rows j) room trial_room ≡ Some Room
+roomless_job j room trial_room h =
+    let n = length (job_rows j) in
+    cond-true _ _ _ (some_few j) ∙ cond-false _ _ _ (elim h [
+      | inl l ↦ and_left (leb n room) (leb (16 * n) trial_room) (lt-leb n room l)
+      | inr l ↦ and_right (leb n room) (leb (16 * n) trial_room) (lt-leb (16 * n) trial_room l)
+    ])
 
-enough : (size room sound : Bool) → sound ≡ true → cond size (cond room None (Some Room)) (Some Size) ≡ None
-    → (room ≡ true) × (cond size (cond room (cond sound None (Some Unsound)) (Some Room)) (Some Size) ≡ None)
-enough true true true s e = (refl, refl)
-enough true true false s e = true_false (sym s)
-enough true false sound s e = none_some _ (sym e)
-enough false room sound s e = none_some _ (sym e)
-
-pub refused : (j : Job) (room trial_room : ℕ) (why : Unfit) → roomless (length (job_rows j)) room trial_room ≡ Some why
-    → unfit (length (job_rows j)) (job_rows j) room trial_room ≡ Some why
-refused j room trial_room why is = (sizes _ _ (sound (job_rows j)) why (some_few j) is).1
+ample : (n room trial_room : ℕ) → n ≤ room → 16 * n ≤ trial_room → (leb n room && leb (16 * n) trial_room) ≡ true
+ample n room trial_room h g = and_from (leb n room) (leb (16 * n) trial_room) (le-leb n room h) (le-leb (16 * n) trial_room g)
 
 pub fitting : (j : Job) (room trial_room : ℕ) → length (job_rows j) ≤ room → 16 * length (job_rows j) ≤ trial_room
     → roomless (length (job_rows j)) room trial_room ≡ None
-fitting j room trial_room h g =
-    let n = length (job_rows j) in
-    cond-true _ _ _ (some_few j) ∙ cond-true _ _ _ (and_from (leb n room) (leb (16 * n) trial_room) (le-leb n room h) (le-leb (16 * n) trial_room g))
+fitting j room trial_room h g = cond-true _ _ _ (some_few j) ∙ cond-true _ _ _ (ample _ _ _ h g)
 
-pub lacking : (j : Job) (room trial_room : ℕ) (why : Unfit) → roomless (length (job_rows j)) room trial_room ≡ Some why
-    → (room < length (job_rows j)) ⊎ (trial_room < 16 * length (job_rows j))
-lacking j room trial_room why is =
-    let n = length (job_rows j) in
-    let off = (sizes _ _ (sound (job_rows j)) why (some_few j) is).0 in
-    elim (and_cases (leb n room) (leb (16 * n) trial_room) off) [ inl h ↦ inl (leb-false _ _ h) | inr h ↦ inr (leb-false _ _ h) ]
-
-pub roomy : (j : Job) (room trial_room : ℕ) → roomless (length (job_rows j)) room trial_room ≡ None
-    → (unfit (length (job_rows j)) (job_rows j) room trial_room ≡ None) × (length (job_rows j) ≤ room) × (16 * length (job_rows j) ≤ trial_room)
+pub roomy : (j : Job) (room trial_room : ℕ) → roomless (length (job_rows j)) room trial_room ≡ None → (length (job_rows j) ≤ room) × (16 * length (job_rows j) ≤ trial_room)
 roomy j room trial_room none =
     let n = length (job_rows j) in
-    let (on, fits) = enough _ _ (sound (job_rows j)) (sound_rows j) none in
-    let all = and_parts (leb n room) (leb (16 * n) trial_room) on in
-    (fits, leb-true _ _ all.0, leb-true _ _ all.1)
+    let all = and_parts (leb n room) (leb (16 * n) trial_room) (enough _ _ none) in
+    (leb-true _ _ all.0, leb-true _ _ all.1)
 
--- of what is granted that there was room, when the sizes were found to do
-pub has_room : (j : Job) (rows saved : Vec Row Global) (r : Result Board Refused) → roomless (length (job_rows j)) (vec_len rows) (vec_len saved) ≡ None
-    → Opens (job_rows j) rows saved r → HasRoom (job_rows j) rows saved r
-has_room j rows saved (Ok b) none o = let (_, rows_room, trial_room) = roomy j _ _ none in (rows_room, trial_room)
-has_room j rows saved (Err e) none o = none_some e.why (sym (roomy j _ _ none).0 ∙ o.0)
+pub fits_job : (j : Job) (room trial_room : ℕ) → length (job_rows j) ≤ room → 16 * length (job_rows j) ≤ trial_room
+    → unfit (length (job_rows j)) (job_rows j) room trial_room ≡ None
+fits_job j room trial_room h g = cond-true _ _ _ (some_few j) ∙ cond-true _ _ _ (ample _ _ _ h g) ∙ cond-true _ _ _ (sound_rows j)
 
 -- the board over memory into whose front the job's rows were written
 module _ (job : List Row) (rows saved : Vec Row Global) (ws : List Row) (n : ℕ) (long : length ws ≡ vec_len rows)
@@ -101,12 +85,14 @@ module _ (job : List Row) (rows saved : Vec Row Global) (ws : List Row) (n : ℕ
   fits = ap (λ m. unfit m (take n (vec_items (with_items rows ws))) (vec_len rows) (vec_len saved)) all
       ∙ ap (λ a. unfit (length job) a (vec_len rows) (vec_len saved)) first ∙ fit
 
-  pub opened : (r : Result Board Refused) → Makes (with_items rows ws) saved n r → Opens job rows saved r
-  opened (Ok b) (_, is, trials, now) = (
+  pub opened : (b : Board) → Makes (with_items rows ws) saved n (Ok b) → Opens job rows saved (Ok b)
+  opened b (_, is, trials, now) = (
     fit,
     now ∙ ap as_read first,
     ap (λ (v : Vec Row Global). drop (length job) (vec_items v)) is ∙ ap (drop (length job)) held ∙ past,
     ap (λ (v : Vec Row Global). vec_len v) is,
     trials,
   )
-  opened (Err e) (unfits, _, _) = none_some e.why (sym fits ∙ unfits)
+
+  pub never_unfit : (e : Refused) → Makes (with_items rows ws) saved n (Err e) → ⊥
+  never_unfit e (unfits, _, _) = none_some e.why (sym fits ∙ unfits)

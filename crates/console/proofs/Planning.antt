@@ -20,10 +20,10 @@ use Rattle.run.specs.declared.call.Call.TheVariants.{Settle, Seek}
 use Rattle.run.specs.Runs.{Leads}
 use Rattle.run.specs.Scripts.{Ran, Logs}
 use Rattle.console.specs.Jobs.{JobFamilies, job_meaning, JobRules}
-use Rattle.console.specs.Reports.{Planned, Left, Roomless}
+use Rattle.console.specs.Reports.{Roomy, Planned, Left, Roomless}
 use Rattle.console.specs.declared.report.Report.{Report}
 use Rattle.console.specs.declared.room.Room.{Room}
-use Rattle.board.specs.declared.unfit.Refused as board
+use Rattle.boards.specs.declared.NoRoom.{NoRoom}
 
 -- what the families mean
 abbrev pub meant : JobFamilies → Meaning
@@ -39,8 +39,11 @@ module _ (f : List ℕ) (j : Job) (on : job_file j ≡ f) (read : reading f ≡ 
   cells_are : length (job_rows j) ≡ length (job_found j).cells
   cells_are = ap length rows_are ∙ length-map (job_found j).cells (row_at f)
 
-  pub lacking : (room : Room) (e : board.Refused) → HasRoom (job_rows j) room.rows room.saved (Err e) → Roomless f room
+  pub lacking : (room : Room) (e : NoRoom) → HasRoom (job_rows j) room.rows room.saved (Err e) → Roomless f room
   lacking room e lacks = (job_found j, read, elim lacks [ inl h ↦ inl (omega (arith, h, cells_are)) | inr h ↦ inr (omega (arith, h, cells_are)) ])
+
+  pub roomy : (room : Room) (b : Board) → HasRoom (job_rows j) room.rows room.saved (Ok b) → Roomy f (job_found j) room
+  roomy room b has = record { read = read; rows = omega (arith, has.0, cells_are); trials = omega (arith, has.1, cells_are) }
 
   module _ (rules : JobFamilies) (are : JobRules (job_file j) (job_found j) rules) where
     means : meant rules ≡ job_meaning f (job_found j)
@@ -52,9 +55,7 @@ module _ (f : List ℕ) (j : Job) (on : job_file j ≡ f) (read : reading f ≡ 
         → p ≡ vec_items room.plan → s ≡ vec_items room.scratch → script ≡ Settle ∷ Seek ∷ [] → Ran (meant rules) b c p q s t script (vec_items r.answers) → Left (state c) r.bounds
         → Planned f (job_found j) room r
     planned b c has start p q s t r script plan scratch is ran left = record {
-      read = read;
-      rows_room = omega (arith, has.0, cells_are);
-      trial_room = omega (arith, has.1, cells_are);
+      roomy = roomy room b has;
       events = ran.events;
       left = state c;
       logs = subst (λ (n : ℕ). Logs n (length (vec_items room.scratch)) (Settle ∷ Seek ∷ []) (vec_items r.answers) ran.events) (ap length plan)

@@ -1,7 +1,7 @@
 // What is printed of a job that is planned: its settled bounds and its first plan.
-ghost use Rattle.std.specs.Prelude.{◌≡◌, ◌≤◌, [], ◌∷◌, length, IfOk};
+ghost use Rattle.std.specs.Prelude.{◌≡◌, [], ◌∷◌, IfOk};
 ghost use Rattle.board.specs.Held.{state};
-ghost use Rattle.console.specs.Reports.{Told, Left, no_room};
+ghost use Rattle.console.specs.Reports.{Told, Left};
 
 use crate::families::rules_of;
 use crate::room::Room;
@@ -10,7 +10,6 @@ use board::board::Board;
 use boards::board_of;
 use bounds::row::Row;
 use job::job::Job;
-use records::refused::Refused;
 use run::answer::Answer;
 use run::call::Call;
 use run::script::run;
@@ -35,9 +34,7 @@ pub fn plan_job(heap: Global, file: &[u8], room: Room) -> Result<Report, Unplann
         mut plan,
         mut scratch,
     } = room;
-    let Ok(mut board) = board_of(&job, rows, saved) else {
-        return Err(Unplanned::Refused(room_refused(file)));
-    };
+    let mut board = board_of(&job, rows, saved)?;
     let answers = run(
         heap,
         &mut board,
@@ -55,17 +52,6 @@ fn planning() -> [Call; 2]
     ensures { result ≡ (Call.Settle ∷ (Call.Seek ∷ [])) }
 {
     [Call::Settle, Call::Seek]
-}
-
-// The refusal of a job that the memory has no room for: line 8, at the file's length.
-fn room_refused(file: &[u8]) -> Refused
-    ensures { length file.now ≤ 65535 → result ≡ no_room file.now }
-{
-    Refused {
-        number: 8,
-        kind: 0,
-        place: u16::try_from(file.len()).unwrap_or(u16::MAX),
-    }
 }
 
 // The rows of the cells, if the board is not void.

@@ -3,6 +3,7 @@ ghost use Rattle.std.specs.Prelude.{◌≡◌, alloc_error};
 ghost use Rattle.job.specs.Faults.{of_job};
 ghost use Rattle.console.specs.declared.unplanned.Unplanned.TheVariants.{Refused as told, Memory as halted};
 
+use boards::NoRoom;
 use job::fault::JobFault;
 use records::refused::Refused;
 use run::halted::Halted;
@@ -24,6 +25,14 @@ impl From<JobFault> for Unplanned {
 
     fn from(fault: JobFault) -> Unplanned {
         Unplanned::Refused(fault.refused())
+    }
+}
+
+impl From<NoRoom> for Unplanned {
+    ghost from_gives = { λ n u. u ≡ told n.refused };
+
+    fn from(no_room: NoRoom) -> Unplanned {
+        Unplanned::Refused(no_room.refused)
     }
 }
 

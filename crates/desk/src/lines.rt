@@ -1,6 +1,6 @@
 // The lines of a script.
 use run::call::Call;
-use std::str::{FromStr, SplitWhitespace};
+use std::alloc::{AllocError, Global};
 
 #[derive(Clone, Copy, PartialEq, Eq, Debug)]
 pub enum Line {
@@ -8,44 +8,36 @@ pub enum Line {
     Help,
 }
 
-// A line that is neither a call nor the word help.
-#[derive(Clone, Copy, PartialEq, Eq, Debug)]
-pub struct NoCall;
+impl Line {
+    ghost use Rattle.std.specs.Prelude.{IfOk};
+    ghost use Rattle.desk.specs.Lines.{Words, AreWords, Says};
 
-impl FromStr for Line {
-    type Err = NoCall;
-
-    fn from_str(line: &str) -> Result<Line, NoCall> {
-        let mut words = line.split_whitespace();
-        match (read(&mut words), words.next()) {
-            (Some(line), None) => Ok(line),
-            _ => Err(NoCall),
-        }
+    // What a line says: a call, or the word help; any other line says nothing.
+    pub fn read(heap: Global, line: &str) -> Result<Option<Line>, AllocError>
+        ensures { IfOk result (λ said. (words : Words) × AreWords line.now words × Says words said) }
+    {
+        let words: Vec<&str> = line.split_whitespace().collect(heap)?;
+        Ok(Line::said(&words))
     }
-}
 
-fn read(words: &mut SplitWhitespace<'_>) -> Option<Line> {
-    let call = match words.next()? {
-        "help" => return Some(Line::Help),
-        "open" => Call::Open,
-        "settle" => Call::Settle,
-        "seek" => Call::Seek,
-        "keep" => Call::Keep(number(words)?),
-        "drop" => Call::Drop(number(words)?),
-        "ask" => Call::Ask(number(words)?),
-        "tighten" => Call::Tighten {
-            cell: number(words)?,
-            low: number(words)?,
-            high: number(words)?,
-        },
-        _ => return None,
-    };
-    Some(Line::Call(call))
-}
-
-fn number<T: FromStr>(words: &mut SplitWhitespace<'_>) -> Option<T>
-where
-    T::Err: Drop,
-{
-    words.next()?.parse::<T>().ok()
+    fn said(words: &[&str]) -> Option<Line>
+        ensures { Says words.now result }
+    {
+        let call = match *words {
+            ["help"] => return Some(Line::Help),
+            ["open"] => Call::Open,
+            ["settle"] => Call::Settle,
+            ["seek"] => Call::Seek,
+            ["keep", serial] => Call::Keep(serial.parse().ok()?),
+            ["drop", serial] => Call::Drop(serial.parse().ok()?),
+            ["ask", cell] => Call::Ask(cell.parse().ok()?),
+            ["tighten", cell, low, high] => Call::Tighten {
+                cell: cell.parse().ok()?,
+                low: low.parse().ok()?,
+                high: high.parse().ok()?,
+            },
+            _ => return None,
+        };
+        Some(Line::Call(call))
+    }
 }

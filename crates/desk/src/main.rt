@@ -8,7 +8,8 @@ use boards::board_of;
 use console::families::rules_of;
 use console::room::Room;
 use job::job::Job;
-use lines::{Line, NoCall};
+use lines::Line;
+use records::refused::Refused;
 use run::script::run;
 use std::io::{BufRead, BufReader};
 use std::{env, fs};
@@ -28,11 +29,13 @@ fn main(rt: HostRuntime) -> anyhow::Result<()> {
     let file = fs::read(&rt, path.as_str())?;
     match Job::read(&file) {
         Ok(job) => answer_all(&rt, &job),
-        Err(fault) => {
-            rt.println(&fault.refused())?;
-            Err(anyhow!("the job is refused"))
-        }
+        Err(fault) => refuse(&rt, &fault.refused()),
     }
+}
+
+fn refuse(rt: &HostRuntime, refused: &Refused) -> anyhow::Result<()> {
+    rt.println(refused)?;
+    Err(anyhow!("the job is refused"))
 }
 
 fn answer_all(rt: &HostRuntime, job: &Job<'_>) -> anyhow::Result<()> {
@@ -43,21 +46,22 @@ fn answer_all(rt: &HostRuntime, job: &Job<'_>) -> anyhow::Result<()> {
         mut plan,
         mut scratch,
     } = Room::for_cells(heap, MOST_CELLS)?;
-    let Ok(mut board) = board_of(job, rows, saved) else {
-        return Err(anyhow!("the desk has no room for the job"));
+    let mut board = match board_of(job, rows, saved) {
+        Ok(board) => board,
+        Err(no_room) => return refuse(rt, &no_room.refused),
     };
     let rules = rules_of(job);
     let lines = BufReader::new(heap, rt.stdin())?.lines(heap);
     for (number, line) in (1u64..).zip(lines) {
         let line = line?;
-        match line.as_str().parse() {
-            Ok(Line::Call(call)) => {
+        match Line::read(heap, line.as_str())? {
+            Some(Line::Call(call)) => {
                 for answer in &run(heap, &mut board, &rules, &[call], &mut plan, &mut scratch)? {
                     rt.println(answer)?;
                 }
             }
-            Ok(Line::Help) => rt.print(HELP)?,
-            Err(NoCall) => println!(rt; "not a call: line {number}: {line}")?,
+            Some(Line::Help) => rt.print(HELP)?,
+            None => println!(rt; "not a call: line {number}: {line}")?,
         }
     }
     Ok(())

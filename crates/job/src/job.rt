@@ -1,5 +1,5 @@
 // A job, read from its file's bytes and standing on them.
-ghost use Rattle.std.specs.Prelude.{◌≡◌, ◌≤◌, true, map};
+ghost use Rattle.std.specs.Prelude.{◌≡◌, ◌≤◌, true, map, length};
 ghost use Rattle.bounds.specs.Boards.{sound};
 ghost use Rattle.job.specs.Tallies.{spaced, row_at};
 
@@ -15,6 +15,7 @@ pub struct Job<'f> {
     file: &'f [u8],
     tally: Tally,
     places: [u16; MOST_RULES],
+    ghost short: { length file.now ≤ 65535 },
     ghost plates_first: { tally.plates ≤ tally.triples },
     ghost totals_last: { tally.triples ≤ tally.totals },
     ghost few: { tally.totals ≤ 1024 },

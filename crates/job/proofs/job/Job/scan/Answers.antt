@@ -51,6 +51,7 @@ invariant_of-result c =
     let all = gathered _ _ _ _ _ g (omega (arith, c.in-None.ensures)) in
     let (some, few, ordered) = job_cells c.args.file.now _ _ (read_bodies c.args.file.now _ c.in_ok-contents.ensures.0 all) in
     record {
+      short = search rules;
       plates_first = g.fresh.plates_first;
       totals_last = g.fresh.totals_last;
       few = g.few;
