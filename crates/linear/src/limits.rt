@@ -1,5 +1,5 @@
 // The bounds that a linear constraint leaves its cells.
-ghost use Rattle.std.specs.Prelude.{◌≡◌, ◌+◌, ◌-◌, ◌*◌, ◌^◌, ◌<◌, ◌≤◌, ◌⊎◌, [], pos, if◌then◌else◌, MatchOption};
+ghost use Rattle.std.specs.Prelude.{◌≡◌, ◌+◌, ◌-◌, ◌*◌, ◌^◌, ◌<◌, ◌≤◌, ◌/◌, min, max, ◌⊎◌, [], pos, if◌then◌else◌, MatchOption};
 ghost use lib.Signed.{lt_z};
 ghost use Rattle.linear.specs.Linear.{over, limits, bounded};
 
@@ -40,6 +40,33 @@ fn not_below_zero(copies: i64) -> u64
     ensures { pos result ≡ (if lt_z copies (pos 0) then pos 0 else copies) }
 {
     copies.max(0) as u64
+}
+
+// The low of a cell, raised to the fewest copies with which the floor is reached.
+// Kept: a low with which it is reached is not divided for, since few move; so with the high below.
+fn raised(row: Row, floor: u64, others: u64, weight: u32) -> u16
+    requires weight { 0 < weight }
+    requires floor { floor < 2 ^ 63 }
+    requires others { others < 2 ^ 63 }
+    requires reached { floor ≤ others + weight * row.high }
+    ensures { result ≡ max row.low (over (floor - others) weight) }
+{
+    if floor <= others + u64::from(weight) * u64::from(row.low) {
+        return row.low;
+    }
+    // Kept: that the casts keep each number is proved, where a try_from would add an error that cannot be.
+    needed(floor, others, weight) as u16
+}
+
+// The high of a cell, lowered to the most copies that weigh no more than the others leave.
+fn lowered(high: u16, room: u64, weight: u32) -> u16
+    requires { 0 < weight }
+    ensures { result ≡ min high (room / weight) }
+{
+    if u64::from(weight) * u64::from(high) <= room {
+        return high;
+    }
+    (room / u64::from(weight)) as u16
 }
 
 impl Limits {
@@ -101,12 +128,9 @@ impl Open {
         } = self.sum;
         let others_least = least - u64::from(weight) * u64::from(row.low);
         let others_most = most - u64::from(weight) * u64::from(row.high);
-        let fewest = needed(floor, others_most, weight);
-        let most = (ceiling - others_least) / u64::from(weight);
-        // Kept: that the casts keep each number is proved, where a try_from would add an error that cannot be.
         Row {
-            low: u64::from(row.low).max(fewest) as u16,
-            high: u64::from(row.high).min(most) as u16,
+            low: raised(row, floor, others_most, weight),
+            high: lowered(row.high, ceiling - others_least, weight),
         }
     }
 }
