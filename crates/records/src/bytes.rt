@@ -41,7 +41,7 @@ impl<'f> Spot<'f> {
     fn rest(self) -> &'f [u8]
         ensures { result.now ≡ drop self.entry.place self.entry.bytes.now }
     {
-        self.bytes.get(self.place..).unwrap_or(&[])
+        &self.bytes[self.place.min(self.bytes.len())..]
     }
 }
 
@@ -57,7 +57,17 @@ fn bytes_at<const N: usize>(file: &[u8], place: usize) -> [u8; N]
     ensures long { length result ≡ N }
     ensures each { (i : ℕ) → i < N → slice_index result i ≡ slice_index file.now (place + i) }
 {
-    let rest = Spot { bytes: file, place }.rest();
+    match file.get(place..) {
+        Some(rest) => front(rest),
+        None => [0; N],
+    }
+}
+
+// The first bytes, and 0 for those past the end.
+fn front<const N: usize>(rest: &[u8]) -> [u8; N]
+    ensures long { length result ≡ N }
+    ensures each { (i : ℕ) → i < N → slice_index result i ≡ slice_index rest.now i }
+{
     match rest.first_chunk() {
         Some(whole) => *whole,
         None => array::from_fn(|i| byte_at(rest, i)),

@@ -11,11 +11,14 @@ use records::totals::Totals;
 use rule_families::change::Change;
 
 impl Total<'_> {
-    // Kept: the weights lie in the file's bytes, so there is no slice of them to go over beside the rows.
+    // Kept: the weights lie in the file's bytes, so there is no slice of them to go over beside the rows; and only those that there are are asked for, where the record's `weight` reads the count again for each.
+    #[tactic(auto, using(crate::proofs::Scope::weight_here))]
     fn weight(&self, i: usize) -> u32
+        requires inside { i < length (record_of self.now).terms }
+        requires few { i < 64 }
         ensures { result ≡ slice_index (weights self.now) i }
     {
-        Totals::weight(self.spot, i)
+        self.spot.u32(Totals::HEAD + 6 * i + 2)
     }
 
     #[tactic(auto, using(crate::proofs::Limits::limiting))]
