@@ -114,7 +114,32 @@ impl Limits {
 
 impl Open {
     // The bounds left to a cell of this weight, which is one of those weighed.
+    #[tactic(auto, using(crate::proofs::Slack::bounded_stays))]
     pub fn bound(self, weight: u32, row: Row) -> Row
+        requires weight { 0 < weight }
+        requires low { weight * row.low ≤ self.sum.least }
+        requires high { weight * row.high ≤ self.sum.most }
+        ensures { result ≡ bounded self.sum weight row }
+    {
+        // Kept: most cells keep both bounds, which this tells of both at once.
+        let spread = u64::from(weight) * u64::from(row.high.saturating_sub(row.low));
+        if spread <= self.slack() {
+            return row;
+        }
+        self.moved(weight, row)
+    }
+
+    // How much heavier a cell may be at its high than at its low where its bounds stay.
+    fn slack(self) -> u64
+        ensures { result ≡ min (self.sum.ceiling - self.sum.least) (self.sum.most - self.sum.floor) }
+    {
+        (self.sum.ceiling - self.sum.least).min(self.sum.most - self.sum.floor)
+    }
+
+    // The same where one of them may move.
+    // Kept: not inlined, so that its divisions take no registers from the loops over cells that stay.
+    #[inline(never)]
+    fn moved(self, weight: u32, row: Row) -> Row
         requires weight { 0 < weight }
         requires low { weight * row.low ≤ self.sum.least }
         requires high { weight * row.high ≤ self.sum.most }

@@ -70,8 +70,19 @@ fn front<const N: usize>(rest: &[u8]) -> [u8; N]
 {
     match rest.first_chunk() {
         Some(whole) => *whole,
-        None => array::from_fn(|i| byte_at(rest, i)),
+        None => cut_off(rest),
     }
+}
+
+// The same where the end of the file cuts them off.
+// Kept: not inlined, so that the loops over numbers stay short.
+#[cold]
+#[inline(never)]
+fn cut_off<const N: usize>(rest: &[u8]) -> [u8; N]
+    ensures long { length result ≡ N }
+    ensures each { (i : ℕ) → i < N → slice_index result i ≡ slice_index rest.now i }
+{
+    array::from_fn(|i| byte_at(rest, i))
 }
 
 // Kept: one for each width, since each number type has a `from_le_bytes` of its own.
