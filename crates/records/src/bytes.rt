@@ -57,31 +57,23 @@ fn bytes_at<const N: usize>(file: &[u8], place: usize) -> [u8; N]
     ensures long { length result ≡ N }
     ensures each { (i : ℕ) → i < N → slice_index result i ≡ slice_index file.now (place + i) }
 {
-    match file.get(place..) {
-        Some(rest) => front(rest),
-        None => [0; N],
+    if let Some(rest) = file.get(place..)
+        && let Some(whole) = rest.first_chunk()
+    {
+        return *whole;
     }
+    cut_off(file, place)
 }
 
-// The first bytes, and 0 for those past the end.
-fn front<const N: usize>(rest: &[u8]) -> [u8; N]
-    ensures long { length result ≡ N }
-    ensures each { (i : ℕ) → i < N → slice_index result i ≡ slice_index rest.now i }
-{
-    match rest.first_chunk() {
-        Some(whole) => *whole,
-        None => cut_off(rest),
-    }
-}
-
-// The same where the end of the file cuts them off.
+// The same where the file's end cuts them off.
 // Kept: not inlined, so that the loops over numbers stay short.
 #[cold]
 #[inline(never)]
-fn cut_off<const N: usize>(rest: &[u8]) -> [u8; N]
+fn cut_off<const N: usize>(file: &[u8], place: usize) -> [u8; N]
     ensures long { length result ≡ N }
-    ensures each { (i : ℕ) → i < N → slice_index result i ≡ slice_index rest.now i }
+    ensures each { (i : ℕ) → i < N → slice_index result i ≡ slice_index file.now (place + i) }
 {
+    let rest = Spot { bytes: file, place }.rest();
     array::from_fn(|i| byte_at(rest, i))
 }
 

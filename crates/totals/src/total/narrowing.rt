@@ -13,10 +13,10 @@ use rule_families::change::Change;
 impl Total<'_> {
     // Kept: the weights lie in the file's bytes, so there is no slice of them to go over beside the rows; and only those that there are are asked for, where the record's `weight` reads the count again for each.
     #[tactic(auto, using(crate::proofs::Scope::weight_here))]
-    fn weight(&self, i: usize) -> u32
-        requires inside { i < length (record_of self.now).terms }
+    fn weight(self, i: usize) -> u32
+        requires inside { i < length (record_of self).terms }
         requires few { i < 64 }
-        ensures { result ≡ slice_index (weights self.now) i }
+        ensures { result ≡ slice_index (weights self.entry) i }
     {
         self.spot.u32(Totals::HEAD + 6 * i + 2)
     }
@@ -56,9 +56,9 @@ impl Total<'_> {
     }
 
     #[tactic(auto, using(crate::proofs::Written::bounding))]
-    pub(super) fn write(&self, limits: Open, own: &mut [Row])
-        requires { Opened self.now own.old limits.sum }
-        ensures { own.new ≡ new_rows self.now own.old }
+    pub(super) fn write(self, limits: Open, own: &mut [Row])
+        requires { Opened self own.old limits.sum }
+        ensures { own.new ≡ new_rows self.entry own.old }
     {
         for (i, row) in own.iter_mut().enumerate() {
             *row = limits.bound(self.weight(i), *row);
