@@ -69,6 +69,23 @@ fn lowered(high: u16, room: u64, weight: u32) -> u16
     (room / u64::from(weight)) as u16
 }
 
+// Both, where one of them may move.
+// Kept: not inlined, so that its divisions take no registers from the loops over cells, most of which stay.
+#[inline(never)]
+fn moved(row: Row, weight: u32, floor: u64, others: u64, room: u64) -> Row
+    requires weight { 0 < weight }
+    requires floor { floor < 2 ^ 63 }
+    requires others { others < 2 ^ 63 }
+    requires reached { floor ≤ others + weight * row.high }
+    ensures low { result.low ≡ max row.low (over (floor - others) weight) }
+    ensures high { result.high ≡ min row.high (room / weight) }
+{
+    Row {
+        low: raised(row, floor, others, weight),
+        high: lowered(row.high, room, weight),
+    }
+}
+
 impl Limits {
     pub fn from_floor_to_ceiling(floor: u64, ceiling: u64) -> Limits
         ensures { result ≡ limits [] floor ceiling [] }
@@ -126,25 +143,6 @@ impl Open {
         if spread <= self.slack() {
             return row;
         }
-        self.moved(weight, row)
-    }
-
-    // How much heavier a cell may be at its high than at its low where its bounds stay.
-    fn slack(self) -> u64
-        ensures { result ≡ min (self.sum.ceiling - self.sum.least) (self.sum.most - self.sum.floor) }
-    {
-        (self.sum.ceiling - self.sum.least).min(self.sum.most - self.sum.floor)
-    }
-
-    // The same where one of them may move.
-    // Kept: not inlined, so that its divisions take no registers from the loops over cells that stay.
-    #[inline(never)]
-    fn moved(self, weight: u32, row: Row) -> Row
-        requires weight { 0 < weight }
-        requires low { weight * row.low ≤ self.sum.least }
-        requires high { weight * row.high ≤ self.sum.most }
-        ensures { result ≡ bounded self.sum weight row }
-    {
         let Limits {
             floor,
             ceiling,
@@ -153,9 +151,13 @@ impl Open {
         } = self.sum;
         let others_least = least - u64::from(weight) * u64::from(row.low);
         let others_most = most - u64::from(weight) * u64::from(row.high);
-        Row {
-            low: raised(row, floor, others_most, weight),
-            high: lowered(row.high, ceiling - others_least, weight),
-        }
+        moved(row, weight, floor, others_most, ceiling - others_least)
+    }
+
+    // How much heavier a cell may be at its high than at its low where its bounds stay.
+    fn slack(self) -> u64
+        ensures { result ≡ min (self.sum.ceiling - self.sum.least) (self.sum.most - self.sum.floor) }
+    {
+        (self.sum.ceiling - self.sum.least).min(self.sum.most - self.sum.floor)
     }
 }
