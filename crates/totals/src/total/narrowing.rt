@@ -1,5 +1,6 @@
 // The narrowing of the rows of a total's cells.
 ghost use Rattle.std.specs.Prelude.{◌≡◌, ◌^◌, ◌<◌, ◌≤◌, true, length, slice_index};
+ghost use Rattle.bounds.specs.Boards.{sound};
 ghost use Rattle.totals.specs.Read.{record_of, weights};
 ghost use Rattle.totals.specs.Narrowing.{limits_of, new_rows, Opened, Outcome};
 
@@ -39,16 +40,17 @@ impl Total<'_> {
 
     // What the new bounds make of the rows, which are not written.
     pub(super) fn outcome(&self, limits: Open, own: &[Row]) -> Change
-        requires { Opened self.now own.now limits.sum }
+        requires opened { Opened self.now own.now limits.sum }
+        requires sound { sound own.now ≡ true }
         ensures { Outcome (new_rows self.now own.now) own.now result }
     {
         let mut change = Change::Quiet;
         for (i, row) in own.iter().enumerate() {
             let new = limits.bound(self.weight(i), *row);
-            if !new.is_sound() {
-                return Change::Void;
-            }
             if new != *row {
+                if !new.is_sound() {
+                    return Change::Void;
+                }
                 change = Change::Narrowed;
             }
         }
