@@ -5,3 +5,4 @@ pub mod TotalLaws
 pub mod Rounding
 pub mod LinearExact
 pub mod Stated
+pub mod Slack

@@ -1,5 +1,5 @@
 // The bounds that a linear constraint leaves its cells.
-ghost use Rattle.std.specs.Prelude.{◌≡◌, ◌+◌, ◌-◌, ◌*◌, ◌^◌, ◌<◌, ◌≤◌, ◌⊎◌, [], pos, if◌then◌else◌, MatchOption};
+ghost use Rattle.std.specs.Prelude.{◌≡◌, ◌+◌, ◌-◌, ◌*◌, ◌^◌, ◌<◌, ◌≤◌, ◌/◌, min, max, ◌⊎◌, [], pos, if◌then◌else◌, MatchOption};
 ghost use lib.Signed.{lt_z};
 ghost use Rattle.linear.specs.Linear.{over, limits, bounded};
 
@@ -40,6 +40,50 @@ fn not_below_zero(copies: i64) -> u64
     ensures { pos result ≡ (if lt_z copies (pos 0) then pos 0 else copies) }
 {
     copies.max(0) as u64
+}
+
+// The low of a cell, raised to the fewest copies with which the floor is reached.
+// Kept: a low with which it is reached is not divided for, since few move; so with the high below.
+fn raised(row: Row, floor: u64, others: u64, weight: u32) -> u16
+    requires weight { 0 < weight }
+    requires floor { floor < 2 ^ 63 }
+    requires others { others < 2 ^ 63 }
+    requires reached { floor ≤ others + weight * row.high }
+    ensures { result ≡ max row.low (over (floor - others) weight) }
+{
+    if floor <= others + u64::from(weight) * u64::from(row.low) {
+        return row.low;
+    }
+    // Kept: that the casts keep each number is proved, where a try_from would add an error that cannot be.
+    needed(floor, others, weight) as u16
+}
+
+// The high of a cell, lowered to the most copies that weigh no more than the others leave.
+fn lowered(high: u16, room: u64, weight: u32) -> u16
+    requires { 0 < weight }
+    ensures { result ≡ min high (room / weight) }
+{
+    if u64::from(weight) * u64::from(high) <= room {
+        return high;
+    }
+    (room / u64::from(weight)) as u16
+}
+
+// Both, where one of them may move.
+// Kept: not inlined, so that its divisions take no registers from the loops over cells, most of which stay.
+#[inline(never)]
+fn moved(row: Row, weight: u32, floor: u64, others: u64, room: u64) -> Row
+    requires weight { 0 < weight }
+    requires floor { floor < 2 ^ 63 }
+    requires others { others < 2 ^ 63 }
+    requires reached { floor ≤ others + weight * row.high }
+    ensures low { result.low ≡ max row.low (over (floor - others) weight) }
+    ensures high { result.high ≡ min row.high (room / weight) }
+{
+    Row {
+        low: raised(row, floor, others, weight),
+        high: lowered(row.high, room, weight),
+    }
 }
 
 impl Limits {
@@ -87,12 +131,18 @@ impl Limits {
 
 impl Open {
     // The bounds left to a cell of this weight, which is one of those weighed.
+    #[tactic(auto, using(crate::proofs::Slack::bounded_stays))]
     pub fn bound(self, weight: u32, row: Row) -> Row
         requires weight { 0 < weight }
         requires low { weight * row.low ≤ self.sum.least }
         requires high { weight * row.high ≤ self.sum.most }
         ensures { result ≡ bounded self.sum weight row }
     {
+        // Kept: most cells keep both bounds, which this tells of both at once.
+        let spread = u64::from(weight) * u64::from(row.high.saturating_sub(row.low));
+        if spread <= self.slack() {
+            return row;
+        }
         let Limits {
             floor,
             ceiling,
@@ -101,12 +151,13 @@ impl Open {
         } = self.sum;
         let others_least = least - u64::from(weight) * u64::from(row.low);
         let others_most = most - u64::from(weight) * u64::from(row.high);
-        let fewest = needed(floor, others_most, weight);
-        let most = (ceiling - others_least) / u64::from(weight);
-        // Kept: that the casts keep each number is proved, where a try_from would add an error that cannot be.
-        Row {
-            low: u64::from(row.low).max(fewest) as u16,
-            high: u64::from(row.high).min(most) as u16,
-        }
+        moved(row, weight, floor, others_most, ceiling - others_least)
+    }
+
+    // How much heavier a cell may be at its high than at its low where its bounds stay.
+    fn slack(self) -> u64
+        ensures { result ≡ min (self.sum.ceiling - self.sum.least) (self.sum.most - self.sum.floor) }
+    {
+        (self.sum.ceiling - self.sum.least).min(self.sum.most - self.sum.floor)
     }
 }

@@ -41,7 +41,7 @@ impl<'f> Spot<'f> {
     fn rest(self) -> &'f [u8]
         ensures { result.now ≡ drop self.entry.place self.entry.bytes.now }
     {
-        self.bytes.get(self.place..).unwrap_or(&[])
+        &self.bytes[self.place.min(self.bytes.len())..]
     }
 }
 
@@ -57,11 +57,21 @@ fn bytes_at<const N: usize>(file: &[u8], place: usize) -> [u8; N]
     ensures long { length result ≡ N }
     ensures each { (i : ℕ) → i < N → slice_index result i ≡ slice_index file.now (place + i) }
 {
-    let rest = Spot { bytes: file, place }.rest();
-    match rest.first_chunk() {
-        Some(whole) => *whole,
-        None => array::from_fn(|i| byte_at(rest, i)),
+    if let Some(rest) = file.get(place..)
+        && let Some(whole) = rest.first_chunk()
+    {
+        return *whole;
     }
+    cut_off(file, place)
+}
+
+// The same where the file's end cuts them off.
+fn cut_off<const N: usize>(file: &[u8], place: usize) -> [u8; N]
+    ensures long { length result ≡ N }
+    ensures each { (i : ℕ) → i < N → slice_index result i ≡ slice_index file.now (place + i) }
+{
+    let rest = Spot { bytes: file, place }.rest();
+    array::from_fn(|i| byte_at(rest, i))
 }
 
 // Kept: one for each width, since each number type has a `from_le_bytes` of its own.

@@ -9,8 +9,8 @@ use Rattle.bounds.specs.Scoped.{Scoped}
 use Rattle.linear.specs.Totals.{total_scoped}
 use Rattle.linear.proofs.TotalLaws.{lawful_says, total_stated, total_unnamed, named_lawful, as_many}
 use Rattle.totals.specs.declared.total.Total.{Total}
-use Rattle.totals.specs.Read.{record_of}
-use Rattle.records.proofs.Fields.{length_terms, get_or_cells}
+use Rattle.totals.specs.Read.{record_of, weights}
+use Rattle.records.proofs.Fields.{length_terms, get_or_cells, get_or_weights}
 
 pub scope_length : (t : records.Total) → total_limits t ≡ true → length (total_scoped t).scope ≡ length t.terms
 scope_length t e = ap (λ (s : Scoped). length s.scope) (total_stated t e) ∙ (sym (as_many t.terms) ∙ length-map t.terms (λ x. x.weight))
@@ -39,3 +39,8 @@ scope_told t = elim (cases_Bool (total_limits t)) [
 pub spot_told : (t : Total) → (length (total_scoped (record_of t)).scope ≡ 0)
     ⊎ ((length (total_scoped (record_of t)).scope ≡ length (record_of t).terms) × (length (record_of t).terms ≤ 64) × (weighted (record_of t).terms ≡ true))
 spot_told t = scope_told (record_of t)
+
+pub weight_here : (t : Total) (i : ℕ) → i < length (record_of t).terms → get_or (weights t) i 0 ≡ number 4 t.spot.bytes.now (t.spot.place + (18 + 6 * i + 2))
+weight_here t i h =
+    let e = get_or_weights _ t.spot.bytes.now (t.spot.place + 18) i (subst (λ n. i < n) (length_terms _ _ _) h) in
+    e ∙ ap (number 4 t.spot.bytes.now) (omega arith)

@@ -1,5 +1,6 @@
 // The narrowing of the rows of a total's cells.
 ghost use Rattle.std.specs.Prelude.{◌≡◌, ◌^◌, ◌<◌, ◌≤◌, true, length, slice_index};
+ghost use Rattle.bounds.specs.Boards.{sound};
 ghost use Rattle.totals.specs.Read.{record_of, weights};
 ghost use Rattle.totals.specs.Narrowing.{limits_of, new_rows, Opened, Outcome};
 
@@ -11,11 +12,14 @@ use records::totals::Totals;
 use rule_families::change::Change;
 
 impl Total<'_> {
-    // Kept: the weights lie in the file's bytes, so there is no slice of them to go over beside the rows.
-    fn weight(&self, i: usize) -> u32
-        ensures { result ≡ slice_index (weights self.now) i }
+    // Kept: the weights lie in the file's bytes, so there is no slice of them to go over beside the rows; and only those that there are are asked for, where the record's `weight` reads the count again for each.
+    #[tactic(auto, using(crate::proofs::Scope::weight_here))]
+    fn weight(self, i: usize) -> u32
+        requires inside { i < length (record_of self).terms }
+        requires few { i < 64 }
+        ensures { result ≡ slice_index (weights self.entry) i }
     {
-        Totals::weight(self.spot, i)
+        self.spot.u32(Totals::HEAD + 6 * i + 2)
     }
 
     #[tactic(auto, using(crate::proofs::Limits::limiting))]
@@ -36,16 +40,17 @@ impl Total<'_> {
 
     // What the new bounds make of the rows, which are not written.
     pub(super) fn outcome(&self, limits: Open, own: &[Row]) -> Change
-        requires { Opened self.now own.now limits.sum }
+        requires opened { Opened self.now own.now limits.sum }
+        requires sound { sound own.now ≡ true }
         ensures { Outcome (new_rows self.now own.now) own.now result }
     {
         let mut change = Change::Quiet;
         for (i, row) in own.iter().enumerate() {
             let new = limits.bound(self.weight(i), *row);
-            if !new.is_sound() {
-                return Change::Void;
-            }
             if new != *row {
+                if !new.is_sound() {
+                    return Change::Void;
+                }
                 change = Change::Narrowed;
             }
         }
@@ -53,9 +58,9 @@ impl Total<'_> {
     }
 
     #[tactic(auto, using(crate::proofs::Written::bounding))]
-    pub(super) fn write(&self, limits: Open, own: &mut [Row])
-        requires { Opened self.now own.old limits.sum }
-        ensures { own.new ≡ new_rows self.now own.old }
+    pub(super) fn write(self, limits: Open, own: &mut [Row])
+        requires { Opened self own.old limits.sum }
+        ensures { own.new ≡ new_rows self.entry own.old }
     {
         for (i, row) in own.iter_mut().enumerate() {
             *row = limits.bound(self.weight(i), *row);

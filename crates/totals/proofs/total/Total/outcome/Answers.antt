@@ -1,7 +1,8 @@
 use Rattle.std.proofs.Common.{◌+◌, ◌≤◌, get_or, sym, refl, ap, ◌∙◌, subst, arith}
 use Rattle.std.proofs.lemmas.Bool.{leb-true, leb-false}
+use Rattle.bounds.specs.declared.row.Row.{Row}
 use Rattle.bounds.specs.Boards.{none_row}
-use Rattle.bounds.proofs.Places.{low_at, high_at}
+use Rattle.bounds.proofs.Places.{low_at, high_at, sound_at}
 use Rattle.rule_families.specs.declared.change.Change.{Change}
 use Rattle.rules.proofs.Compared.{rows_differ, rows_agree}
 use Rattle.totals.specs.Narrowing.{new_rows}
@@ -12,15 +13,15 @@ use Rattle.totals.proofs.total.Total.outcome.Goals as goal
 pub bound-new-requires : goal.bound-new-requires
 bound-new-requires c = grind (
   arith,
-  ready c.args.self.now c.args.own.now c.args.limits.sum c.requires c.loop-i.i c.weight.result c.loop-i-test.true c.weight.ensures,
+  ready c.args.self.now c.args.own.now c.args.limits.sum c.requires.opened c.loop-i.i c.weight.result c.loop-i-test.true c.weight.ensures,
 )
 
 pub returns-then-not-is_sound : goal.returns-then-not-is_sound
 returns-then-not-is_sound c =
     let t = c.args.self.now in
     let a = c.args.own.now in
-    let new = new_at t a c.args.limits.sum c.requires c.loop-i.i c.weight.result c.loop-i-test.true c.weight.ensures c.bound-new.result c.bound-new.ensures in
-    far_void (new_rows t a) a (new_length t a c.args.limits.sum c.requires) c.loop-i.i c.loop-i-test.true
+    let new = new_at t a c.args.limits.sum c.requires.opened c.loop-i.i c.weight.result c.loop-i-test.true c.weight.ensures c.bound-new.result c.bound-new.ensures in
+    far_void (new_rows t a) a (new_length t a c.args.limits.sum c.requires.opened) c.loop-i.i c.loop-i-test.true
     (omega (arith, leb-false _ _ (sym c.is_sound.ensures ∙ c.if-not-is_sound.true), ap (λ x. x.low) new, ap (λ x. x.high) new))
 
 pub loop-i-preserved : goal.loop-i-preserved
@@ -28,19 +29,23 @@ loop-i-preserved c =
     let t = c.args.self.now in
     let a = c.args.own.now in
     let i = c.loop-i.i in
-    let new = new_at t a c.args.limits.sum c.requires i c.weight.result c.loop-i-test.true c.weight.ensures c.bound-new.result c.bound-new.ensures in
-    let sound : low_at (new_rows t a) i ≤ high_at (new_rows t a) i =
-    omega (arith, leb-true _ _ (sym c.is_sound.ensures ∙ c.if-not-is_sound.false), ap (λ r. r.low) new, ap (λ r. r.high) new) in
+    let new = new_at t a c.args.limits.sum c.requires.opened i c.weight.result c.loop-i-test.true c.weight.ensures c.bound-new.result c.bound-new.ensures in
     let Next : Change → Type 0 = Far (new_rows t a) a (i + 1) in
     elim c.if-ne.branch [
-      | goal.then-ne w ↦ subst Next (sym w.change-is)
+      | goal.then-ne+else-not-is_sound w ↦
+          let sound : low_at (new_rows t a) i ≤ high_at (new_rows t a) i =
+          omega (arith, leb-true _ _ (sym w.is_sound.ensures ∙ w.if-not-is_sound.false), ap (λ r. r.low) new, ap (λ r. r.high) new) in
+          subst Next (sym w.change-is)
           (far_other (new_rows t a) a i c.loop-i.change c.loop-i.invariant sound (λ same. rows_differ c.bound-new.result (get_or a i none_row) _ refl (sym w.if-ne.true ∙ c.ne.ensures) (sym new ∙ same)))
-      | goal.else-ne w ↦ subst Next (sym w.change-is)
-          (far_same (new_rows t a) a i c.loop-i.change c.loop-i.invariant sound (new ∙ rows_agree c.bound-new.result (get_or a i none_row) _ refl (sym w.if-ne.false ∙ c.ne.ensures)))
+      | goal.else-ne w ↦
+          let same = new ∙ rows_agree c.bound-new.result (get_or a i none_row) _ refl (sym w.if-ne.false ∙ c.ne.ensures) in
+          let kept = sound_at a c.requires.sound i c.loop-i-test.true in
+          let sound : low_at (new_rows t a) i ≤ high_at (new_rows t a) i = omega (arith, kept, ap (λ (r : Row). r.low) same, ap (λ (r : Row). r.high) same) in
+          subst Next (sym w.change-is) (far_same (new_rows t a) a i c.loop-i.change c.loop-i.invariant sound same)
     ]
 
 pub returns : goal.returns
 returns c =
     let t = c.args.self.now in
     let a = c.args.own.now in
-    far_all (new_rows t a) a (new_length t a c.args.limits.sum c.requires) c.loop-i.i c.loop-i.change c.loop-i-test.false c.loop-i.invariant
+    far_all (new_rows t a) a (new_length t a c.args.limits.sum c.requires.opened) c.loop-i.i c.loop-i.change c.loop-i-test.false c.loop-i.invariant
