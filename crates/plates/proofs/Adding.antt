@@ -1,11 +1,11 @@
 -- A loop that adds up the rows, the last first.
-use Rattle.std.proofs.Common.{◌≡◌, ℕ, zero, suc, ◌+◌, ◌*◌, ◌<◌, ◌≤◌, max, List, [], ◌∷◌, ◌++◌, reverse, length, length-append, get_or, sym, ◌∙◌, subst₂, inl, inr, arith}
+use Rattle.std.proofs.Common.{◌≡◌, ℕ, zero, suc, ◌+◌, ◌-◌, ◌*◌, ◌<◌, ◌≤◌, max, List, [], ◌∷◌, ◌++◌, reverse, length, length-append, get_or, sym, ◌∙◌, subst₂, inl, inr, arith}
 use Rattle.std.proofs.lemmas.List.{reverse-append}
 use Rattle.std.proofs.lemmas.Bool.{cases_lt}
 use Rattle.bounds.specs.declared.row.Row.{Row}
 use Rattle.plates.specs.declared.frame.Sums.{Sums}
 use Rattle.plates.specs.Form.{top}
-use Rattle.plates.specs.Work.{Admitted, Summed, Topped}
+use Rattle.plates.specs.Work.{Admitted, Summed, Topped, gap}
 use Rattle.plates.proofs.Tops.{row, top_zero, top_certain, top_absent, top_full}
 
 abbrev pub Added : List Row → List ℕ → Sums → ℕ → Type 0
@@ -51,6 +51,14 @@ module _ (cs : List Row) (t : List ℕ) (s : Sums) (n : ℕ) (w : Added cs t s n
                 let x : get_or u (suc k) 0 ≡ get_or t k 0 + suc h = rw i at (rw j at g.all) in
                 (omega (arith, top_full cs k (omega arith)), omega arith)
           ]
+
+pub gap_certain : (l h : ℕ) (cs : List Row) (g : ℕ) → g ≡ gap cs → (m : ℕ) → 0 < l → m ≡ max g (h - l) → m ≡ gap (row l h ∷ cs)
+gap_certain zero h cs g e m p q = absurd (omega arith)
+gap_certain (suc l) h cs g e m p q = omega arith
+
+pub gap_other : (l h : ℕ) (cs : List Row) (g : ℕ) → g ≡ gap cs → l ≤ 0 → g ≡ gap (row l h ∷ cs)
+gap_other (suc l) h cs g e p = absurd (omega arith)
+gap_other zero h cs g e p = omega arith
 
 -- one row more, as the loop meets them
 pub one_more : (P : List Row → ℕ → Type 0) (rows : List Row) (r : Row)

@@ -1,7 +1,8 @@
 -- What the parts of the code compute.
-use Rattle.std.specs.Prelude.{◌≡◌, ℕ, ◌+◌, ◌-◌, ◌*◌, ◌<◌, ◌≤◌, min, max, if◌then◌else◌, nat_le, ◌&&◌, length, Bool, true, false, ◌≢◌, List, map, Some, None, Option, slice_index, slice_index_or}
+use Rattle.std.specs.Prelude.{⊤, ◌≡◌, ℕ, zero, suc, ◌+◌, ◌-◌, ◌*◌, ◌<◌, ◌≤◌, min, max, if◌then◌else◌, nat_le, nat_lt, ◌&&◌, length, Bool, true, false, ◌≢◌, List, [], ◌∷◌, map, Some, None, Option, slice_index, slice_index_or}
 use Rattle.bounds.specs.declared.row.Row.{Row}
 use Rattle.plates.specs.declared.frame.Sums.{Sums}
+use Rattle.plates.specs.declared.frame.Widths.{Widths}
 use Rattle.plates.specs.declared.frame.Frame.TheInside.{Inside}
 use Rattle.plates.specs.Form.{Frame, certain, optional, low_sum, base, top, feasible, frame_of, count_of}
 
@@ -31,6 +32,21 @@ pub record Summed (cs : List Row) (s : Sums) (n : ℕ) : Type 0 where
 pub record Topped (cs : List Row) (t : List ℕ) (s : Sums) (n : ℕ) : Type 0 where
   pub tops : (k : ℕ) → k ≤ s.optional → slice_index t k ≡ top cs k
   pub limit : (k : ℕ) → k ≤ s.optional → slice_index t k ≤ 65535 * n
+
+-- how far the bounds of a certain count lie apart
+abbrev pub if_gap : ℕ → ℕ → ℕ
+if_gap zero h = 0
+if_gap (suc l) h = h - suc l
+
+-- how far they do at most
+abbrev pub gap : List Row → ℕ
+gap [] = 0
+gap (r ∷ rs) = max (if_gap r.low r.high) (gap rs)
+
+-- and the greatest high of the counts that are not certain
+pub record Wide (cs : List Row) (w : Widths) : Type 0 where
+  pub certain : w.certain ≡ gap cs
+  pub optional : w.optional ≡ top cs 1
 
 abbrev pub numbers : Inside → Frame
 numbers f = record {
@@ -94,3 +110,39 @@ pub record Wrote (f : Frame) (a b : List Row) (changed : Bool) : Type 0 where
   pub is : b ≡ map (count_of f) a
   pub same : changed ≡ false → b ≡ a
   pub other : changed ≡ true → b ≢ a
+
+-- the frame alone
+abbrev pub the_frame : Option (Frame × Widths) → Option Frame
+the_frame None = None
+the_frame (Some p) = Some p.0
+
+abbrev pub Widened : List Row → Option (Frame × Widths) → Type 0
+Widened cs None = ⊤
+Widened cs (Some p) = Wide cs p.1
+
+-- what the slots have left beside the fewest copies, and what of it another optional count can have
+abbrev pub room : Frame → ℕ
+room f = f.ceiling - (f.lows + f.fewest)
+
+abbrev pub more : Frame → ℕ
+more f = if nat_lt f.fewest f.most then room f else 0
+
+-- the widths up to which every count keeps its bounds
+abbrev pub certain_kept : Frame → ℕ
+certain_kept f = min (room f) (f.at - f.floor)
+
+abbrev pub enter_kept : Frame → ℕ
+enter_kept f = if nat_lt 0 f.fewest && nat_le f.floor ((more f + 1) + f.under) then room f + 1 else more f
+
+abbrev pub leave_kept : Frame → ℕ
+leave_kept f = if nat_lt f.fewest f.optional then f.over - f.floor else 0
+
+abbrev pub widths_kept : Frame → Widths
+widths_kept f = record { certain = certain_kept f; optional = min (enter_kept f) (leave_kept f) }
+
+-- up to the widths w they do
+pub record Kept (f : Frame) (w : Widths) : Type 0 where
+  pub certain : (r : Row) → 0 < r.low → r.high ≤ r.low + w.certain → r ≡ count_of f r
+  pub optional : (r : Row) → r.low ≤ 0 → r.high ≤ r.low + w.optional → r ≡ count_of f r
+  pub light : w.certain ≤ 65536
+  pub room : w.optional ≤ 65536

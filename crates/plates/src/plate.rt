@@ -32,12 +32,12 @@ fn narrow(slots: &mut Row, variety: &mut Row, counts: &mut [Row]) -> Change
     requires sound { sound (slots.old ∷ (variety.old ∷ counts.old)) ≡ true }
     ensures { Narrows (exact plate) (slots.old ∷ (variety.old ∷ counts.old)) (slots.new ∷ (variety.new ∷ counts.new)) result }
 {
-    let Some(frame) = Frame::of(*slots, *variety, counts) else {
+    let Some((frame, widths)) = Frame::of(*slots, *variety, counts) else {
         return Change::Void;
     };
     let new_slots = frame.slots();
     let new_variety = frame.variety();
-    let counts_moved = frame.put_counts(counts);
+    let counts_moved = frame.put_counts(widths, counts);
     let slots_moved = new_slots != *slots;
     let variety_moved = new_variety != *variety;
     *slots = new_slots;
