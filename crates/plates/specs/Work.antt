@@ -13,6 +13,10 @@ sum_at t b k = b + slice_index t k
 abbrev pub Light : List ℕ → ℕ → ℕ → Type 0
 Light t count limit = (k : ℕ) → k ≤ count → slice_index t k < limit
 
+-- each sum adds no more than the one before
+abbrev pub Concave : List ℕ → ℕ → Type 0
+Concave t count = (k : ℕ) → k + 2 ≤ count → slice_index t k + slice_index t (k + 2) ≤ slice_index t (k + 1) + slice_index t (k + 1)
+
 -- the largest sums t of at most so many highs, and u with one high more to choose from
 pub record Admitted (t u : List ℕ) (count high : ℕ) : Type 0 where
   pub none : slice_index_or u 0 0 ≡ slice_index t 0

@@ -1,7 +1,7 @@
 // The narrowing of a plate, in closed form.
 ghost use Rattle.std.specs.Prelude.{◌≡◌, ℕ, ◌+◌, ◌-◌, ◌*◌, ◌<◌, ◌≤◌, length};
 ghost use Rattle.plates.specs.Form.{seek, slots_of, variety_of, low_of, high_of, count_of};
-ghost use Rattle.plates.specs.Work.{Admitted, Light, Summed, Topped, gap, Framed, Spanned, Wrote, room_for, frame_with, Wide, Widened, the_frame, widths_kept, Kept};
+ghost use Rattle.plates.specs.Work.{Admitted, Light, Concave, Summed, Topped, gap, Framed, Spanned, Wrote, room_for, frame_with, Wide, Widened, the_frame, widths_kept, Kept};
 
 use bounds::row::Row;
 use std::marker::Model;
@@ -53,15 +53,21 @@ impl Model for Frame {
 }
 
 // One more high to choose from: the largest sums of at most so many of them.
+// Kept: each sum is made of the one before it as that was, which a walk upwards over the sums alone would have to carry along.
 fn admit(top: &mut [u32], count: usize, high: u16)
     requires room { count + 1 < length top.old }
     requires light { Light top.old count 4194304 }
+    requires concave { Concave top.old count }
     ensures { Admitted top.old top.new count high }
 {
     top[count + 1] = top[count] + u32::from(high);
-    // Kept: each sum is made of the one before it as that was, which a walk upwards over the sums alone would have to carry along.
     for k in (0..count).rev() {
-        top[k + 1] = top[k + 1].max(top[k] + u32::from(high));
+        let with = top[k] + u32::from(high);
+        // Where it is no gain, it is none among fewer, of which each adds as much or more.
+        if with <= top[k + 1] {
+            return;
+        }
+        top[k + 1] = with;
     }
 }
 

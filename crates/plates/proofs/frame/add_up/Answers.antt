@@ -1,6 +1,6 @@
 use Rattle.std.proofs.Common.{◌≡◌, ◌+◌, length, reverse, arith, rules, tests}
 use Rattle.plates.specs.Work.{gap}
-use Rattle.plates.proofs.Adding.{Added, sums, one_more, gap_certain, gap_other, certain_front, optional_front, absent_front}
+use Rattle.plates.proofs.Adding.{Added, sums, concave_is, one_more, gap_certain, gap_other, certain_front, optional_front, absent_front}
 use Rattle.plates.proofs.frame.add_up.Goals as goal
 
 pub loop-low-preserved-then-low-gt0 : goal.loop-low-preserved-then-low-gt0
@@ -26,3 +26,6 @@ loop-low-preserved c =
           (absent_front (reverse l.yielded) l.top s (length l.yielded) l.invariant.0 _ _ _ c.from-lows.ensures (omega arith) (omega arith)),
       one_more (λ cs n. l.gap ≡ gap cs) l.yielded c.in-Some.field-0 (gap_other _ _ (reverse l.yielded) l.gap l.invariant.1 (omega arith)),
     )
+
+pub admit-requires-clause-concave : goal.admit-requires-clause-concave
+admit-requires-clause-concave c = let l = c.loop-low in concave_is (reverse l.yielded) l.top (sums l.certain l.optional l.lows l.base) l.invariant.0.1
