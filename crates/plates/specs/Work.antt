@@ -82,6 +82,11 @@ pub record Small (f : Frame) : Type 0 where
 abbrev pub room_for : Sums → Row → Row → Option ℕ
 room_for m s v = if nat_le m.certain v.high && nat_le m.lows s.high then Some (min m.optional (min (v.high - m.certain) (s.high - m.lows))) else None
 
+-- the first k from least to most whose sum is enough
+abbrev pub First : List ℕ → ℕ → ℕ → ℕ → ℕ → Option ℕ → Type 0
+First t b floor least most None = (k : ℕ) → least ≤ k → k ≤ most → sum_at t b k < floor
+First t b floor least most (Some r) = (least ≤ r) × (r ≤ most) × (floor ≤ sum_at t b r) × ((k : ℕ) → least ≤ k → k < r → sum_at t b k < floor)
+
 -- with r to k optional counts present, of which t has the largest sums
 abbrev pub frame_with : Row → Sums → List ℕ → ℕ → ℕ → Frame
 frame_with s m t r k = record {

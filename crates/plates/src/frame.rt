@@ -1,7 +1,7 @@
 // The narrowing of a plate, in closed form.
 ghost use Rattle.std.specs.Prelude.{◌≡◌, ℕ, ◌+◌, ◌-◌, ◌*◌, ◌<◌, ◌≤◌, length};
 ghost use Rattle.plates.specs.Form.{seek, slots_of, variety_of, low_of, high_of, count_of};
-ghost use Rattle.plates.specs.Work.{Admitted, Light, Concave, Summed, Topped, gap, Framed, Spanned, Wrote, room_for, frame_with, Wide, Widened, the_frame, widths_kept, Kept};
+ghost use Rattle.plates.specs.Work.{Admitted, Light, Concave, Summed, Topped, gap, sum_at, First, Framed, Spanned, Wrote, room_for, frame_with, Wide, Widened, the_frame, widths_kept, Kept};
 
 use bounds::row::Row;
 use std::marker::Model;
@@ -115,6 +115,23 @@ impl Sums {
         let copies = u32::from(slots.high).checked_sub(self.lows)?;
         Some(self.optional.min(kinds).min(copies))
     }
+
+    // How many optional counts, from `least` to `most`, make up the floor at the earliest.
+    // Kept: `least` nearly always do, so that they are tried before the walk.
+    fn fewest(self, floor: u32, top: &[u32], least: u32, most: u32) -> Option<u32>
+        requires whole { length top.now ≡ 65 }
+        requires few { most ≤ 64 }
+        requires light { (k : ℕ) → k ≤ most → sum_at top.now self.base k < 16777216 }
+        ensures { First top.now self.base floor least most result }
+    {
+        if least > most {
+            return None;
+        }
+        if self.base + top[least as usize] >= floor {
+            return Some(least);
+        }
+        (least + 1..most + 1).find(|k| self.base + top[*k as usize] >= floor)
+    }
 }
 
 impl Frame {
@@ -156,7 +173,7 @@ impl Frame {
         let most = sums.most(slots, variety)?;
         let least = u32::from(variety.low).saturating_sub(sums.certain);
         let floor = u32::from(slots.low);
-        let fewest = (least..most + 1).find(|k| sums.base + top[*k as usize] >= floor)?;
+        let fewest = sums.fewest(floor, &top, least, most)?;
         let widths = Widths {
             certain: gap,
             optional: top[sums.optional.min(1) as usize],
