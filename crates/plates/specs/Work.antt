@@ -104,7 +104,7 @@ frame_with s m t r k = record {
 
 -- and its numbers have room
 pub record Spanned (s : Row) (m : Sums) (t : List ℕ) (r k : ℕ) : Type 0 where
-  pub whole : length t ≡ 65
+  pub whole : m.optional < length t
   pub order : r ≤ k
   pub exist : k ≤ m.optional
   pub few : m.optional ≤ 64

@@ -75,10 +75,11 @@ fn admit(top: &mut [u32], count: usize, high: u16)
 // Kept: one walk for all of these and the table, where a chain for each would go over the counts five times.
 fn add_up(counts: &[Row], top: &mut [u32]) -> (Sums, u32)
     requires few { length counts.now ≤ 64 }
-    requires whole { length top.old ≡ 65 }
+    requires whole { length counts.now < length top.old }
     ensures sums { Summed counts.now result.0 64 }
     ensures gap { result.1 ≡ gap counts.now }
     ensures tops { Topped counts.now top.new result.0 64 }
+    ensures room { result.0.optional < length top.new }
 {
     let mut certain = 0;
     let mut optional = 0;
@@ -119,7 +120,7 @@ impl Sums {
     // How many optional counts, from `least` to `most`, make up the floor at the earliest.
     // Kept: `least` nearly always do, so that they are tried before the walk.
     fn fewest(self, floor: u32, top: &[u32], least: u32, most: u32) -> Option<u32>
-        requires whole { length top.now ≡ 65 }
+        requires whole { most < length top.now }
         requires few { most ≤ 64 }
         requires light { (k : ℕ) → k ≤ most → sum_at top.now self.base k < 16777216 }
         ensures { First top.now self.base floor least most result }
@@ -162,13 +163,15 @@ impl Frame {
 
     // None where no filling of the rows meets the rule.
     // Kept: that the counts are 64 at most is a fact of the plate's record, which plain rows do not know.
-    pub fn of(slots: Row, variety: Row, counts: &[Row]) -> Option<(Frame, Widths)>
-        requires { length counts.now ≤ 64 }
+    pub fn of<const N: usize>(slots: Row, variety: Row, counts: &[Row]) -> Option<(Frame, Widths)>
+        requires few { length counts.now ≤ 64 }
+        requires room { length counts.now < N }
+        requires size { N ≤ 65 }
         ensures framed { Framed slots variety counts.now (the_frame result) }
         ensures widths { Widened counts.now result }
     {
-        // Kept: settling has no heap, so the sums of at most 64 counts lie in an array that has room for all.
-        let mut top = [0u32; 65];
+        // Kept: settling has no heap, so the sums lie in an array that has room for all.
+        let mut top = [0u32; N];
         let (sums, gap) = add_up(counts, &mut top);
         let most = sums.most(slots, variety)?;
         let least = u32::from(variety.low).saturating_sub(sums.certain);

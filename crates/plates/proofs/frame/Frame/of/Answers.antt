@@ -3,15 +3,16 @@ use Rattle.plates.proofs.Frames.{none_found, fewest_is, framed, spanned, Room, r
 use Rattle.plates.proofs.Keeping.{wide_is}
 use Rattle.plates.proofs.frame.Frame.of.Goals as goal
 use Rattle.plates.proofs.frame.Frame.of.Goals.{After-fewest}
+use Rattle.plates.proofs.frame.Frame.of.Given.{Over}
 
-room : (c : After-fewest) → Room c.add_up-gap.result.0 c.args.slots c.args.variety c.in_ok-most.most
-room c = room_is _ _ _ _ (sym c.most.ensures ∙ c.in_ok-most.was)
+room : (g : Over) (c : After-fewest g) → Room c.add_up-gap.result.0 c.args.slots c.args.variety c.in_ok-most.most
+room g c = room_is _ _ _ _ (sym c.most.ensures ∙ c.in_ok-most.was)
 
 pub returns-in_err-fewest : goal.returns-in_err-fewest
-returns-in_err-fewest c =
+returns-in_err-fewest g c =
     let s = c.add_up-gap in
-    let after = (goal.at.returns-in_err-fewest c).After-fewest in
-    let f = rw c.in_err-fewest.was at after.fewest.ensures in let o = room after in
+    let after = (goal.at.returns-in_err-fewest g c).After-fewest in
+    let f = rw c.in_err-fewest.was at after.fewest.ensures in let o = room g after in
     rw c.from_residual-in_err-fewest.ensures (record {
       widths = tt;
       framed = none_found c.args.slots c.args.variety c.args.counts.now s.new.top s.result.0 s.ensures.sums s.ensures.tops
@@ -19,18 +20,18 @@ returns-in_err-fewest c =
     })
 
 pub between-requires : goal.between-requires
-between-requires c =
+between-requires g c =
     let s = c.add_up-gap in
-    let after = (goal.at.between-requires c).After-fewest in
-    let f = rw c.in_ok-fewest.was at after.fewest.ensures in let o = room after in
+    let after = (goal.at.between-requires g c).After-fewest in
+    let f = rw c.in_ok-fewest.was at after.fewest.ensures in let o = room g after in
     spanned c.args.slots c.args.variety c.args.counts.now s.new.top s.result.0 s.ensures.sums s.ensures.tops
     c.in_ok-most.most c.in_ok-fewest.fewest (omega arith) (omega arith) (omega arith) (omega arith) (omega arith) (omega arith) (omega arith) (omega arith)
 
 pub returns : goal.returns
-returns c =
+returns h c =
     let s = c.add_up-gap in
-    let after = (goal.at.returns c).After-fewest in
-    let f = rw c.in_ok-fewest.was at after.fewest.ensures in let o = room after in
+    let after = (goal.at.returns h c).After-fewest in
+    let f = rw c.in_ok-fewest.was at after.fewest.ensures in let o = room h after in
     let g = framed c.args.slots c.args.variety c.args.counts.now s.new.top s.result.0 s.ensures.sums s.ensures.tops
     c.args.slots.low c.args.slots.high c.in_ok-most.most c.in_ok-fewest.fewest _ _ refl refl refl (omega arith) (omega arith) (omega arith) (omega arith)
     (fewest_is c.args.slots c.args.variety c.args.counts.now s.new.top s.result.0 s.ensures.sums s.ensures.tops c.saturating_sub-least.result c.in_ok-most.most (omega arith) (omega arith)
