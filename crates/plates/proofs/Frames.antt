@@ -117,7 +117,7 @@ module _ (s v : Row) (cs : List Row) where
             λ i. record { floor = f i; ceiling = g i; certain = a.certains i; optional = o i; lows = n i; fewest = y i; most = x i; under = e_under i; at = e_at i; over = e_over i },
           )
 
-    pub spanned : (m r : ℕ) → length t ≡ 65 → m ≡ most s v cs → r ≤ m → low_sum cs ≤ s.high → s.low ≤ sum_at t sm.base r
+    pub spanned : (m r : ℕ) → sm.optional < length t → m ≡ most s v cs → r ≤ m → low_sum cs ≤ s.high → s.low ≤ sum_at t sm.base r
         → s.low < 65536 → s.high < 65536 → v.high < 65536 → Spanned s sm t r m
     spanned m r e x l q h y z k = let o = a.optionals in record {
       whole = e;

@@ -6,6 +6,7 @@ pub mod Spans
 pub mod Exactness
 pub mod Adding
 pub mod Frames
+pub mod Keeping
 pub mod Writes
 pub mod Whole
 pub mod Stated

@@ -1,5 +1,5 @@
 // A plate: the copies of its designs fill its slots, and its variety is how many designs have a copy.
-ghost use Rattle.std.specs.Prelude.{◌≡◌, ◌≤◌, true, ◌∷◌, length, nat_le, refl};
+ghost use Rattle.std.specs.Prelude.{◌≡◌, ◌<◌, ◌≤◌, true, ◌∷◌, length, nat_le, refl};
 ghost use Rattle.bounds.specs.Boards.{sound};
 ghost use Rattle.bounds.specs.Exact.{exact};
 ghost use Rattle.bounds.proofs.Lifted.{exact_on_laws};
@@ -26,18 +26,34 @@ pub struct Plate<'f> {
 }
 
 // Narrows the rows of the slots, the variety and the counts to the hull of the fillings that meet the rule.
-#[tactic(auto, using(crate::proofs::Whole::narrowing))]
+// Kept: a table with room for 64 counts takes longer to clear than the few of most plates to narrow.
 fn narrow(slots: &mut Row, variety: &mut Row, counts: &mut [Row]) -> Change
     requires few { length counts.old ≤ 64 }
     requires sound { sound (slots.old ∷ (variety.old ∷ counts.old)) ≡ true }
     ensures { Narrows (exact plate) (slots.old ∷ (variety.old ∷ counts.old)) (slots.new ∷ (variety.new ∷ counts.new)) result }
 {
-    let Some(frame) = Frame::of(*slots, *variety, counts) else {
+    if counts.len() < 16 {
+        narrow_in::<16>(slots, variety, counts)
+    } else {
+        narrow_in::<65>(slots, variety, counts)
+    }
+}
+
+// The same with a table for fewer than N counts.
+#[tactic(auto, using(crate::proofs::Whole::narrowing))]
+fn narrow_in<const N: usize>(slots: &mut Row, variety: &mut Row, counts: &mut [Row]) -> Change
+    requires few { length counts.old ≤ 64 }
+    requires room { length counts.old < N }
+    requires size { N ≤ 65 }
+    requires sound { sound (slots.old ∷ (variety.old ∷ counts.old)) ≡ true }
+    ensures { Narrows (exact plate) (slots.old ∷ (variety.old ∷ counts.old)) (slots.new ∷ (variety.new ∷ counts.new)) result }
+{
+    let Some((frame, widths)) = Frame::of::<N>(*slots, *variety, counts) else {
         return Change::Void;
     };
     let new_slots = frame.slots();
     let new_variety = frame.variety();
-    let counts_moved = frame.put_counts(counts);
+    let counts_moved = frame.put_counts(widths, counts);
     let slots_moved = new_slots != *slots;
     let variety_moved = new_variety != *variety;
     *slots = new_slots;

@@ -1,46 +1,40 @@
-use Rattle.std.proofs.Common.{ℕ, ◌+◌, ◌<◌, ◌≤◌, refl, sym, ◌∙◌, arith, rules, tests}
-use Rattle.std.specs.Option.{MatchOption}
-use Rattle.std.proofs.lemmas.Iterator.{first_from_Range}
-use Rattle.plates.specs.Work.{sum_at}
+use Rattle.std.proofs.Common.{refl, sym, ◌∙◌, arith}
 use Rattle.plates.proofs.Frames.{none_found, fewest_is, framed, spanned, Room, room_is}
+use Rattle.plates.proofs.Keeping.{wide_is}
 use Rattle.plates.proofs.frame.Frame.of.Goals as goal
-use Rattle.plates.proofs.frame.Frame.of.Goals.{After-find}
+use Rattle.plates.proofs.frame.Frame.of.Goals.{After-fewest}
+use Rattle.plates.proofs.frame.Frame.of.Given.{Over}
 
-found : (c : After-find) → let s = c.add_up-sums in
-    MatchOption c.find.result ((k : ℕ) → c.saturating_sub-least.result ≤ k → k < c.in_ok-most.most + 1 → sum_at s.new.top s.result.base k < c.from-floor.result)
-    (λ r. (c.saturating_sub-least.result ≤ r) × (r < c.in_ok-most.most + 1) × (c.from-floor.result ≤ sum_at s.new.top s.result.base r)
-    × ((k : ℕ) → c.saturating_sub-least.result ≤ k → k < r → sum_at s.new.top s.result.base k < c.from-floor.result))
-found c = let s = c.add_up-sums in
-    first_from_Range _ _ _ _ (λ k. c.from-floor.result ≤ sum_at s.new.top s.result.base k) (λ k. sum_at s.new.top s.result.base k < c.from-floor.result) c.find.ensures.ran
-    (λ x q k. search (rules, tests)) (λ x q k. search (rules, tests))
-
-room : (c : After-find) → Room c.add_up-sums.result c.args.slots c.args.variety c.in_ok-most.most
-room c = room_is _ _ _ _ (sym c.most.ensures ∙ c.in_ok-most.was)
+room : (g : Over) (c : After-fewest g) → Room c.add_up-gap.result.0 c.args.slots c.args.variety c.in_ok-most.most
+room g c = room_is _ _ _ _ (sym c.most.ensures ∙ c.in_ok-most.was)
 
 pub returns-in_err-fewest : goal.returns-in_err-fewest
-returns-in_err-fewest c =
-    let s = c.add_up-sums in
-    let after = (goal.at.returns-in_err-fewest c).After-find in
-    let f = rw c.in_err-fewest.was at (found after) in let o = room after in
-    rw c.from_residual-in_err-fewest.ensures (none_found c.args.slots c.args.variety c.args.counts.now s.new.top s.result s.ensures.sums s.ensures.tops
-    c.saturating_sub-least.result c.in_ok-most.most (omega arith) (omega arith) (λ j p q. omega (arith, f j p (omega arith))))
+returns-in_err-fewest g c =
+    let s = c.add_up-gap in
+    let after = (goal.at.returns-in_err-fewest g c).After-fewest in
+    let f = rw c.in_err-fewest.was at after.fewest.ensures in let o = room g after in
+    rw c.from_residual-in_err-fewest.ensures (record {
+      widths = tt;
+      framed = none_found c.args.slots c.args.variety c.args.counts.now s.new.top s.result.0 s.ensures.sums s.ensures.tops
+          c.saturating_sub-least.result c.in_ok-most.most (omega arith) (omega arith) (λ j p q. omega (arith, f j p q));
+    })
 
 pub between-requires : goal.between-requires
-between-requires c =
-    let s = c.add_up-sums in
-    let after = (goal.at.between-requires c).After-find in
-    let f = rw c.in_ok-fewest.was at (found after) in let o = room after in
-    spanned c.args.slots c.args.variety c.args.counts.now s.new.top s.result s.ensures.sums s.ensures.tops
+between-requires g c =
+    let s = c.add_up-gap in
+    let after = (goal.at.between-requires g c).After-fewest in
+    let f = rw c.in_ok-fewest.was at after.fewest.ensures in let o = room g after in
+    spanned c.args.slots c.args.variety c.args.counts.now s.new.top s.result.0 s.ensures.sums s.ensures.tops
     c.in_ok-most.most c.in_ok-fewest.fewest (omega arith) (omega arith) (omega arith) (omega arith) (omega arith) (omega arith) (omega arith) (omega arith)
 
 pub returns : goal.returns
-returns c =
-    let s = c.add_up-sums in
-    let after = (goal.at.returns c).After-find in
-    let f = rw c.in_ok-fewest.was at (found after) in let o = room after in
-    let g = framed c.args.slots c.args.variety c.args.counts.now s.new.top s.result s.ensures.sums s.ensures.tops
+returns h c =
+    let s = c.add_up-gap in
+    let after = (goal.at.returns h c).After-fewest in
+    let f = rw c.in_ok-fewest.was at after.fewest.ensures in let o = room h after in
+    let g = framed c.args.slots c.args.variety c.args.counts.now s.new.top s.result.0 s.ensures.sums s.ensures.tops
     c.args.slots.low c.args.slots.high c.in_ok-most.most c.in_ok-fewest.fewest _ _ refl refl refl (omega arith) (omega arith) (omega arith) (omega arith)
-    (fewest_is c.args.slots c.args.variety c.args.counts.now s.new.top s.result s.ensures.sums s.ensures.tops c.saturating_sub-least.result c.in_ok-most.most (omega arith) (omega arith)
+    (fewest_is c.args.slots c.args.variety c.args.counts.now s.new.top s.result.0 s.ensures.sums s.ensures.tops c.saturating_sub-least.result c.in_ok-most.most (omega arith) (omega arith)
     c.in_ok-fewest.fewest (omega arith) (omega arith) (omega arith) (λ j p q. omega (arith, f.3 j p q)))
     (omega arith) refl in
-    (g.0, c.between.ensures ∙ g.1)
+    record { framed = (g.0, c.between.ensures ∙ g.1); widths = wide_is c.args.counts.now _ _ s.ensures.gap s.ensures.sums.optionals s.ensures.tops c.min.ensures }
