@@ -11,7 +11,7 @@ pub struct Frames<'a>(pub &'a [u8]);
 impl<'a> Iterator for Frames<'a> {
     type Item = &'a [u8];
 
-    ghost next_gives = { λ s r t. MatchOption r (s.0.now ≡ []) (λ job. job.now ++ t.0.now ≡ drop 4 s.0.now) };
+    ghost next_gives = { λ s r t. MatchOption r (s.0.now ≡ []) (λ job. (job.now ++ t.0.now ≡ drop 4 s.0.now) × (length job.now ≡ min (number 4 s.0.now 0) (length (drop 4 s.0.now)))) };
 
     ghost remaining = { λ s. at_most (length s.0.now) };
 
