@@ -284,8 +284,6 @@ impl Frame {
     }
 
     // Writes the new rows of the counts; whether one differs.
-    // Kept: inline, since a frame that lies in registers would be written to memory for the call.
-    #[inline(always)]
     pub fn put_counts(&self, widths: Widths, counts: &mut [Row]) -> bool
         requires wide { Wide counts.old widths }
         ensures { Wrote self.now counts.old counts.new result }
