@@ -1,5 +1,5 @@
 -- A loop that adds up the rows, the last first.
-use Rattle.std.proofs.Common.{◌≡◌, ℕ, zero, suc, ◌+◌, ◌-◌, ◌*◌, ◌<◌, ◌≤◌, max, List, [], ◌∷◌, ◌++◌, reverse, length, length-append, get_or, set, get_or-set_other, get_or-set_same, sym, ap, ◌∙◌, subst₂, inl, inr, arith}
+use Rattle.std.proofs.Common.{◌≡◌, ℕ, zero, suc, ◌+◌, ◌-◌, ◌*◌, ◌<◌, ◌≤◌, max, List, [], ◌∷◌, ◌++◌, reverse, length, length-append, get_or, set, get_or-set_other, get_or-set_same, sym, ap, ◌∙◌, subst, subst₂, inl, inr, arith}
 use Rattle.std.proofs.lemmas.List.{reverse-append}
 use Rattle.std.proofs.lemmas.Bool.{cases_lt}
 use Rattle.bounds.specs.declared.row.Row.{Row}
@@ -90,6 +90,15 @@ module _ (cs : List Row) (t : List ℕ) (s : Sums) (n : ℕ) (w : Added cs t s n
                 let x : get_or u (suc k) 0 ≡ get_or t k 0 + suc h = rw i at (rw j at g.all) in
                 (omega (arith, top_full cs k (omega arith)), omega arith)
           ]
+
+  abbrev same_lows : ℕ → ℕ → List ℕ → ℕ → ℕ → Type 0
+  same_lows l h u o x = Added (row l h ∷ cs) u (sums s.certain o x s.base) (suc n)
+
+  pub absent_same : (l h : ℕ) → l ≤ 0 → h ≤ 0 → same_lows l h t s.optional s.lows
+  absent_same l h p q = subst (same_lows l h t s.optional) (omega arith) (absent_front l h 0 (omega arith) p q)
+
+  pub optional_same : (l h : ℕ) (u : List ℕ) → l ≤ 0 → 0 < h → h < 65536 → Admitted t u s.optional h → same_lows l h u (s.optional + 1) s.lows
+  optional_same l h u p q r g = subst (same_lows l h u (s.optional + 1)) (omega arith) (optional_front l h 0 u (omega arith) p q r g)
 
 pub gap_certain : (l h : ℕ) (cs : List Row) (g : ℕ) → g ≡ gap cs → (m : ℕ) → 0 < l → m ≡ max g (h - l) → m ≡ gap (row l h ∷ cs)
 gap_certain zero h cs g e m p q = absurd (omega arith)

@@ -88,9 +88,9 @@ fn add_up(counts: &[Row], top: &mut [u32]) -> (Sums, u32)
     let mut gap = 0;
     top[0] = 0;
     for Row { low, high } in counts.iter().rev().copied() {
-        lows += u32::from(low);
         if low > 0 {
             certain += 1;
+            lows += u32::from(low);
             base += u32::from(high);
             gap = gap.max(u32::from(high.saturating_sub(low)));
         } else if high > 0 {
