@@ -57,8 +57,8 @@ fn bytes_at<const N: usize>(file: &[u8], place: usize) -> [u8; N]
     ensures long { length result ≡ N }
     ensures each { (i : ℕ) → i < N → slice_index result i ≡ slice_index file.now (place + i) }
 {
-    if let Some(rest) = file.get(place..)
-        && let Some(whole) = rest.first_chunk()
+    if place <= file.len()
+        && let Some(whole) = file[place..].first_chunk()
     {
         return *whole;
     }
@@ -66,6 +66,9 @@ fn bytes_at<const N: usize>(file: &[u8], place: usize) -> [u8; N]
 }
 
 // The same where the file's end cuts them off.
+// Kept: not inlined, so that the loops over numbers stay short.
+#[cold]
+#[inline(never)]
 fn cut_off<const N: usize>(file: &[u8], place: usize) -> [u8; N]
     ensures long { length result ≡ N }
     ensures each { (i : ℕ) → i < N → slice_index result i ≡ slice_index file.now (place + i) }
