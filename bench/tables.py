@@ -96,7 +96,7 @@ class Designs(Table):
         stored = job.with_suffix(".plan").read_text().strip()
         nodes = theirs.run and solvers.gecode_nodes(theirs.run.output)
         values = [job.stem, *(self.told(spent) for spent in (ours, theirs)), ratio(ours.cost, theirs.cost)]
-        more = self.calls(ours) if self.count else [told(of.run and of.run.kilobytes, ",d") for of in (ours, theirs)]
+        more = self.calls(ours) if self.count else [told(of.run and of.run.kilobytes or None, ",d") for of in (ours, theirs)]
         return [*values, told(nodes, ",d"), *more], all(plan == stored for plan in plans)
 
     def told(self, spent):
@@ -135,7 +135,7 @@ class Growths(Table):
         plans = seek.answer(solvers.our_plan) + theirs.answer(solvers.gecode_plan)
         costs = [told(of.cost and of.cost * (1 if self.count else 1000), ",.1f") for of in (read, settle, seek, theirs)]
         narrowings = settle.run.output.split()[-1] if settle.run.output else "-"
-        values = [*thing, len(job.file()), *costs, narrowings, f"{seek.run.kilobytes:,d}"]
+        values = [*thing, len(job.file()), *costs, narrowings, told(seek.run.kilobytes or None, ",d")]
         return values, all(one == f"plan {' '.join(map(str, plan))}" for one in plans)
 
     def desk(self, folder, job, call, start):
