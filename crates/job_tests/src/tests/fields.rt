@@ -84,7 +84,7 @@ fn triples(rt: HostRuntime) -> Result<(), Fail> {
 const MOST: u64 = 10_000_000_000_000;
 
 #[test]
-fn totals(rt: HostRuntime) -> Result<(), Fail> {
+fn lawful_totals(rt: HostRuntime) -> Result<(), Fail> {
     let heap = rt.alloc();
     let good: [(u64, u64, &[(u16, u32)]); 7] = [
         (0, 0, &[(0, 1)]),
@@ -104,6 +104,12 @@ fn totals(rt: HostRuntime) -> Result<(), Fail> {
             "{floor} to {ceiling} of {terms:?}"
         );
     }
+    Ok(())
+}
+
+#[test]
+fn totals(rt: HostRuntime) -> Result<(), Fail> {
+    let heap = rt.alloc();
     let bad: [(u8, u16, u64, u64, &[(u16, u32)]); 15] = [
         (6, 1, 6, 5, &[(0, 1)]),
         (6, 1, MOST, MOST - 1, &[(0, 1)]),
