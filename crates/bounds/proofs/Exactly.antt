@@ -4,8 +4,8 @@ use Rattle.std.proofs.lemmas.Bool.{cond_both, both_ways}
 use Rattle.bounds.specs.declared.row.Row.{Row}
 use Rattle.bounds.specs.Boards.{void, cells, sound, Inside, Fills}
 use Rattle.bounds.specs.Exact.{exact}
-use Rattle.bounds.proofs.Places.{low_at, high_at, fills_length, fills_sound}
-use Rattle.bounds.proofs.Hulls.{Tight, Hull, Meeting, exact_is, narrowest, hull_one}
+use Rattle.bounds.proofs.Places.{low_at, high_at, fills_length, fills_sound, fills_inside}
+use Rattle.bounds.proofs.Hulls.{Tight, Hull, Meeting, exact_is, narrowest, hull_one, tight_same}
 
 module _ (meets : List ℕ → Bool) (a : List Row) where
   pub exact_void : (exact meets a ≡ void) ↔ ((p : List ℕ) → Meeting meets a p → ⊥)
@@ -35,3 +35,9 @@ module _ (meets : List ℕ → Bool) (a : List Row) where
 
     pub tight_length : length g ≡ length a
     tight_length = sym (fills_length _ g (t.holds _ t.one.1)) ∙ fills_length _ a t.one.1.0
+
+-- rows that hold the meeting fillings of the rows before, and are tight, are tight for their own
+pub exact_again : (meets : List ℕ → Bool) (a g : List Row) → exact meets a ≡ cells g → exact meets g ≡ cells g
+exact_again meets a g e = let t = (exact_cells meets a g).0 e in
+    (exact_cells meets g g).1 (tight_same (Meeting meets a) (Meeting meets g) (λ p m. (t.holds p m, m.1)) g
+    (λ p m. (fills_inside p g a (tight_inside meets a g t) m.0, m.1)) t)

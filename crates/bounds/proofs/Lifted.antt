@@ -4,14 +4,14 @@ use Rattle.std.proofs.lemmas.List.{ext_get_or}
 use Rattle.std.proofs.lemmas.Bool.{cond_both, cond-true, cond-false, cases_Bool, both_ways, and_from, and_parts, and_cases, le-ltb}
 use Rattle.bounds.specs.declared.row.Row.{Row}
 use Rattle.bounds.specs.Boards.{Board, void, cells, sound, Real, Inside, Within, Fills, Lies, Fixed, lows, highs, none_row}
-use Rattle.bounds.specs.Laws.{Rule, idle, Laws, FiveLaws, Touched, Untouched, Alike}
+use Rattle.bounds.specs.Laws.{Rule, idle, Laws, FiveLaws, Touched, Untouched, Alike, Idempotent}
 use Rattle.bounds.specs.Exact.{exact}
 use Rattle.bounds.specs.Scoped.{Scoped, fits, names, distinct, gather, scatter, put, on_board, ScopedLaws, exact_on}
 use Rattle.bounds.specs.Listed.{numbered}
 use Rattle.bounds.proofs.Places.{low_at, high_at, fills_length, fills_at, at_fills, at_inside, inside_at, at_sound, sound_at, at_fixed, fixed_one}
 use Rattle.bounds.proofs.Rows.{fills_lows, fills_highs, lows_at, highs_at, inside_length, inside_all, cells_void, cells_same}
 use Rattle.bounds.proofs.Hulls.{Hull, Meeting, exact_is, hull_one}
-use Rattle.bounds.proofs.Exactly.{exact_void, exact_cells, tight_inside}
+use Rattle.bounds.proofs.Exactly.{exact_void, exact_cells, exact_again, tight_inside}
 use Rattle.bounds.proofs.ExactLaws.{exact_laws}
 use Rattle.bounds.proofs.Beside.{idle_laws}
 use Rattle.bounds.proofs.Scopes.{fits_at, names_at, names_place, length_gather, gather_at, gather_same, gather_scatter, scatter_gather, length_scatter, scatter_both, scatter_each, scatter_free}
@@ -289,6 +289,11 @@ exact_on_laws scope relation =
       keeps = λ a p e t f m. law.keeps a p t f m;
       rejects = λ a p e f n. (exact_void relation a).1 (λ q m. both_ways (relation p) n (ap relation (fixed_one a p q f m.0) ∙ m.1));
     }
+
+pub lifted_idempotent : (scope : List ℕ) (relation : List ℕ → Bool) → distinct scope ≡ true → Idempotent (on_board (exact_on scope relation))
+lifted_idempotent scope relation once a b t e =
+    let u = subst Real e ((lifted_laws (exact_on scope relation) (exact_on_laws scope relation)).real a t) in
+    lifted_exact scope relation b once u ∙ exact_again (on_board (exact_on scope relation)).meets a b (sym (lifted_exact scope relation a once t) ∙ e)
 
 pub numbered_lawful : (size : ℕ) (at : ℕ → Scoped) → ((r : ℕ) → ScopedLaws (at r)) → FiveLaws (numbered size at)
 numbered_lawful size at laws =

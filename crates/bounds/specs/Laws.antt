@@ -61,3 +61,7 @@ pub record FiveLaws (m : Meaning) : Type 0 where
   pub few : m.size ≤ 4096
   pub each : (r : ℕ) → Laws (m.rule r)
   pub beyond : (r : ℕ) → m.size ≤ r → m.rule r ≡ idle
+
+-- rows that it has narrowed it narrows no further
+abbrev pub Idempotent : Rule → Type 0
+Idempotent u = (a b : List Row) → sound a ≡ true → u.narrowed a ≡ cells b → u.narrowed b ≡ cells b

@@ -2,7 +2,8 @@
 use Rattle.std.specs.Prelude.{ℕ, ◌-◌, min, max, Bool, List, [], ◌∷◌, length, get_or, nat_le, slice_get}
 use Rattle.bounds.specs.Laws.{Meaning}
 use Rattle.bounds.specs.Scoped.{Scoped, exact_on}
-use Rattle.rules.specs.Numbers.{ruled}
+use Rattle.bounds.specs.Listed.{numbered}
+use Rattle.rules.specs.Numbers.{or_none}
 use Rattle.house.specs.declared.mirror.Mirror.{Mirror}
 
 -- the two counts differ by at most so many
@@ -18,4 +19,4 @@ mirror_rule m = exact_on (scope_of m) (alike m.most)
 
 -- one rule to a mirror, in the order of the list
 abbrev pub mirrors : List Mirror → Meaning
-mirrors ms = ruled mirror_rule (length ms) (slice_get ms)
+mirrors ms = numbered (length ms) (λ number. or_none mirror_rule (slice_get ms number))

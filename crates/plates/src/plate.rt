@@ -1,5 +1,6 @@
 // A plate: the copies of its designs fill its slots, and its variety is how many designs have a copy.
-ghost use Rattle.std.specs.Prelude.{◌≡◌, ◌<◌, ◌≤◌, true, ◌∷◌, length, nat_le, refl};
+ghost use Rattle.std.specs.Prelude.{◌≡◌, ◌+◌, ◌*◌, ◌<◌, ◌≤◌, true, ◌∷◌, length, nat_le, refl};
+ghost use Rattle.records.specs.Bytes.{number};
 ghost use Rattle.bounds.specs.Boards.{sound};
 ghost use Rattle.bounds.specs.Exact.{exact};
 ghost use Rattle.bounds.proofs.Lifted.{exact_on_laws};
@@ -22,7 +23,20 @@ use rules::named::Named;
 // Kept: public, so that any spot makes one; that its record keeps its limits is asked where it is read as a rule, not of callers.
 #[derive(Clone, Copy)]
 pub struct Plate<'f> {
-    pub spot: Spot<'f>,
+    spot: Spot<'f>,
+    // Whether the record ends within the file, as each does that a job has: its cells are then read with no more ado.
+    whole: bool,
+    ghost ends: { whole ≡ true → spot.place + (6 + 2 * number 2 spot.bytes.now (spot.place + 4)) ≤ length spot.bytes.now },
+}
+
+impl<'f> Plate<'f> {
+    pub fn at(spot: Spot<'f>) -> Plate<'f>
+        ensures spot { result.spot ≡ spot.entry }
+        ensures whole { result.whole ≡ nat_le (spot.entry.place + (6 + 2 * number 2 spot.entry.bytes.now (spot.entry.place + 4))) (length spot.entry.bytes.now) }
+    {
+        let whole = spot.holds(Plates::HEAD + 2 * usize::from(spot.u16(4)));
+        Plate { spot, whole }
+    }
 }
 
 // Narrows the rows of the slots, the variety and the counts to the hull of the fillings that meet the rule.
@@ -80,7 +94,11 @@ impl Scope for Plate<'_> {
     fn cell(&self, i: usize) -> usize {
         // the number of counts stands between the variety and the first count
         let index = if i < 2 { i } else { i + 1 };
-        usize::from(self.spot.u16(2 * index))
+        usize::from(if self.whole {
+            self.spot.u16_inside(2 * index)
+        } else {
+            self.spot.u16(2 * index)
+        })
     }
 }
 
@@ -92,6 +110,10 @@ impl Named for Plate<'_> {
     ghost names_them = { λ p. refl };
 
     ghost few = { λ p. let r = plate_at p.spot.bytes.now p.spot.place in two_and_64 (nat_le 1 (length r.counts)) r.slots r.variety r.counts };
+
+    fn is_exact(&self) -> bool {
+        true
+    }
 
     fn narrow_own(&self, own: &mut [Row]) -> Change {
         // Only a record that keeps no limits names no cell.

@@ -1,5 +1,5 @@
 // Numbers in the job file's bytes, lowest byte first; a byte past the end reads as 0.
-ghost use Rattle.std.specs.Prelude.{◌≡◌, ℕ, ◌+◌, ◌<◌, drop, length, slice_index};
+ghost use Rattle.std.specs.Prelude.{◌≡◌, ℕ, ◌+◌, ◌<◌, ◌≤◌, drop, length, nat_le, slice_index};
 ghost use Rattle.records.specs.Bytes.{number};
 
 use std::array;
@@ -37,6 +37,28 @@ impl<'f> Spot<'f> {
         u64_at(self.rest(), offset)
     }
 
+    // Whether so many bytes stand from the place on.
+    pub fn holds(self, bytes: usize) -> bool
+        ensures { result ≡ nat_le (self.entry.place + bytes) (length self.entry.bytes.now) }
+    {
+        self.place <= self.bytes.len() && bytes <= self.bytes.len() - self.place
+    }
+
+    // The number so many bytes past the place, where it is known to end within the bytes.
+    pub fn u16_inside(self, offset: usize) -> u16
+        requires { self.place + offset + 2 ≤ length self.bytes.now }
+        ensures { result ≡ number 2 self.entry.bytes.now (self.entry.place + offset) }
+    {
+        u16::from_le_bytes(bytes_inside(self.bytes, self.place + offset))
+    }
+
+    pub fn u32_inside(self, offset: usize) -> u32
+        requires { self.place + offset + 4 ≤ length self.bytes.now }
+        ensures { result ≡ number 4 self.entry.bytes.now (self.entry.place + offset) }
+    {
+        u32::from_le_bytes(bytes_inside(self.bytes, self.place + offset))
+    }
+
     // What stands from the place on: nothing past the end.
     fn rest(self) -> &'f [u8]
         ensures { result.now ≡ drop self.entry.place self.entry.bytes.now }
@@ -63,6 +85,15 @@ fn bytes_at<const N: usize>(file: &[u8], place: usize) -> [u8; N]
         return *whole;
     }
     cut_off(file, place)
+}
+
+// The same where they are known to end within the file.
+fn bytes_inside<const N: usize>(file: &[u8], place: usize) -> [u8; N]
+    requires { place + N ≤ length file.now }
+    ensures long { length result ≡ N }
+    ensures each { (i : ℕ) → i < N → slice_index result i ≡ slice_index file.now (place + i) }
+{
+    *file[place..].first_chunk().unwrap()
 }
 
 // The same where the file's end cuts them off.

@@ -61,6 +61,14 @@ impl<A: Family, B: Family> Family for Beside<A, B> {
         }
     }
 
+    fn is_idempotent(&self, rule: usize) -> bool {
+        match self.place(rule) {
+            Some(Place::First(own)) => self.first.is_idempotent(own),
+            Some(Place::Second(own)) => self.second.is_idempotent(own),
+            None => false,
+        }
+    }
+
     fn narrow(&self, rule: usize, rows: &mut [Row]) -> Change {
         match self.place(rule) {
             Some(Place::First(own)) => self.first.narrow(own, rows),

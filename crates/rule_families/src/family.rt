@@ -1,7 +1,7 @@
 // What a board knows of its rules.
 ghost use Rattle.std.specs.Prelude.{◌≡◌, true};
 ghost use Rattle.bounds.specs.Boards.{sound};
-ghost use Rattle.bounds.specs.Laws.{Meaning, FiveLaws};
+ghost use Rattle.bounds.specs.Laws.{Meaning, FiveLaws, Idempotent};
 ghost use Rattle.rule_families.specs.Marks.{Marks};
 ghost use Rattle.rule_families.specs.Narrows.{Narrows};
 
@@ -34,6 +34,13 @@ pub trait Family {
                 *marked = true;
             }
         }
+    }
+
+    // Whether the rule is known to be quiet on rows that it has narrowed, so that it need not be applied to them again.
+    fn is_idempotent(&self, rule: usize) -> bool
+        ensures { result ≡ true → Idempotent ((meaning self.now).rule rule) }
+    {
+        false
     }
 
     // The rows are narrowed in place; where the rule has no filling left they stay as they were.

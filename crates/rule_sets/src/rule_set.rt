@@ -1,6 +1,6 @@
 // Sets of rules.
 ghost use Rattle.std.specs.Prelude.{◌≡◌, ◌<◌, ◌≤◌, take, position};
-ghost use Rattle.rule_sets.specs.Members.{some_rule, Empty, Below, Inserted, Removed, WithBit, WithoutBit, United, Lowest};
+ghost use Rattle.rule_sets.specs.Members.{has, some_rule, Empty, Below, Inserted, Removed, WithBit, WithoutBit, United, Lowest};
 
 use rule_families::family::MOST_RULES;
 
@@ -41,6 +41,13 @@ impl RuleSet {
         ensures { Inserted self.old rule self.new }
     {
         self.words[rule / 64] = with_bit(self.words[rule / 64], rule % 64);
+    }
+
+    pub fn contains(&self, rule: usize) -> bool
+        requires { rule < 4096 }
+        ensures { result ≡ has self.now rule }
+    {
+        self.words[rule / 64] >> (rule % 64) & 1 == 1
     }
 
     #[tactic(auto, using(crate::proofs::Bits::removed))]

@@ -4,3 +4,4 @@ pub mod Few
 pub mod Rows
 pub mod Reached
 pub mod Answered
+pub mod Exactness

@@ -1,7 +1,5 @@
--- Rules by number, where a number may have none.
-use Rattle.std.specs.Prelude.{ℕ, true, [], Option, Some, None}
-use Rattle.bounds.specs.Laws.{Meaning}
-use Rattle.bounds.specs.Listed.{numbered}
+-- A rule, or none.
+use Rattle.std.specs.Prelude.{true, [], Option, Some, None}
 use Rattle.bounds.specs.Scoped.{Scoped, ScopedLaws, exact_on}
 use Rattle.bounds.proofs.Lifted.{exact_on_laws}
 
@@ -14,6 +12,3 @@ module _ {R : Type 0} (scoped : R → Scoped) where
   pub none_laws : ((r : R) → ScopedLaws (scoped r)) → (o : Option R) → ScopedLaws (or_none o)
   none_laws laws (Some r) = laws r
   none_laws laws None = exact_on_laws [] (λ _. true)
-
-  abbrev pub ruled : ℕ → (ℕ → Option R) → Meaning
-  ruled count at = numbered count (λ number. or_none (at number))

@@ -1,12 +1,14 @@
 // Rules that name their cells one by one.
 ghost use Rattle.std.specs.Prelude.{◌≡◌, ◌≤◌, true, false, ◌≢◌, ◌⊎◌, length};
 ghost use Rattle.bounds.specs.Boards.{cells, sound, none_row};
+ghost use Rattle.bounds.specs.Exact.{exact};
+ghost use Rattle.bounds.specs.Laws.{Idempotent};
 ghost use Rattle.bounds.specs.Scoped.{Scoped, ScopedLaws, fits, gather, scatter, on_board};
 ghost use Rattle.rule_families.specs.Narrows.{Narrows};
 ghost use Rattle.rule_families.specs.Marks.{Marks, MarksNamed};
 
 use bounds::row::Row;
-use bounds::scope::{Scope, fits, names};
+use bounds::scope::{Scope, distinct, fits, names};
 use rule_families::change::Change;
 
 // The most cells that a rule names: a plate's slots, its variety and 64 counts.
@@ -27,6 +29,13 @@ pub trait Named: Scope {
         requires own { length own.old ≡ length (scoped self.now).scope }
         requires sound { sound own.old ≡ true }
         ensures { Narrows (scoped self.now).narrowing own.old own.new result };
+
+    // Whether the rule is known to narrow the rows of its cells exactly.
+    fn is_exact(&self) -> bool
+        ensures { result ≡ true → (scoped self.now).narrowing ≡ exact (scoped self.now).relation }
+    {
+        false
+    }
 
     // Its cells are those of the scope, and not too many.
     ghost names_them: { (r : Self) → Self.scope r ≡ (scoped r).scope };
@@ -60,6 +69,14 @@ fn mark_named<R: Scope>(rule: &R, marks: &mut [bool])
     }
 }
 
+// Whether the rule is known to be quiet on rows that it has narrowed: a cell that is named twice could be narrowed further.
+#[tactic(auto, using(crate::proofs::Exactness::exact_idempotent))]
+pub fn is_idempotent<R: Named>(rule: &R) -> bool
+    ensures { result ≡ true → Idempotent (on_board (R.scoped rule.now)) }
+{
+    rule.is_exact() && distinct(rule)
+}
+
 // Narrows the rows of the named cells; a rule that names a missing cell leaves every board as it is.
 pub fn narrow<R: Named>(rule: &R, rows: &mut [Row]) -> Change
     requires { sound rows.old ≡ true }
@@ -77,7 +94,7 @@ pub fn narrow<R: Named>(rule: &R, rows: &mut [Row]) -> Change
 
 // The same in room for N rows.
 // Kept: the rows stand at the front of room on the stack, since settling takes no heap.
-#[tactic(auto, using(bounds::proofs::Lifted::own_sound, bounds::proofs::Lifted::lifted_quiet))]
+#[tactic(auto, using(bounds::proofs::Lifted::own_sound, bounds::proofs::Lifted::lifted_quiet, std::proofs::lemmas::List::take_at))]
 fn narrow_in<R: Named, const N: usize>(rule: &R, arity: usize, rows: &mut [Row]) -> Change
     requires arity { arity ≡ length (R.scoped rule.now).scope }
     requires room { arity ≤ N }
@@ -86,15 +103,13 @@ fn narrow_in<R: Named, const N: usize>(rule: &R, arity: usize, rows: &mut [Row])
     ensures { Narrows (on_board (R.scoped rule.now)).narrowed rows.old rows.new result }
 {
     let mut found = [Row::default(); N];
-    let before = &mut found[..arity];
-    if !gathered(rule, rows, before) {
+    if !gathered(rule, rows, &mut found[..arity]) {
         return Change::Quiet;
     }
-    let mut work = [Row::default(); N];
+    let mut work = found;
     let own = &mut work[..arity];
-    own.copy_from_slice(before);
     match rule.narrow_own(own) {
-        Change::Narrowed => written_back(rule, rows, before, own),
+        Change::Narrowed => written_back(rule, rows, &found[..arity], own),
         unchanged => unchanged,
     }
 }

@@ -1,8 +1,9 @@
 // Families of rules that name their cells, by number; those past the 4,096th are left out.
-ghost use Rattle.std.specs.Prelude.{◌≡◌, ℕ, ◌<◌, Option, length, slice_get};
+ghost use Rattle.std.specs.Prelude.{◌≡◌, ℕ, ◌<◌, length, slice_get};
 ghost use Rattle.bounds.proofs.Lifted.{numbered_lawful};
-ghost use Rattle.bounds.specs.Scoped.{on_board};
-ghost use Rattle.rules.specs.Numbers.{or_none, none_laws, ruled};
+ghost use Rattle.bounds.specs.Listed.{numbered};
+ghost use Rattle.bounds.specs.Scoped.{Scoped, ScopedLaws, on_board};
+ghost use Rattle.rules.specs.Numbers.{or_none, none_laws};
 
 use crate::named::{self, Named};
 use bounds::row::Row;
@@ -15,15 +16,18 @@ pub trait Numbered {
 
     ghost count: { Self → ℕ };
 
-    // Which rule each number has; where there is none, nothing is asked.
-    ghost at: { Self → ℕ → Option Self.Rule };
+    // What the rule of each number asks.
+    ghost at: { Self → ℕ → Scoped };
+
+    ghost lawful: { (s : Self) → (number : ℕ) → ScopedLaws (at s number) };
 
     fn count(&self) -> usize
         ensures { result ≡ count self.now };
 
+    // None where it asks nothing.
     fn rule(&self, number: usize) -> Option<Self::Rule>
         requires { number < count self.now }
-        ensures { result ≡ at self.now number };
+        ensures { or_none Self.Rule.scoped result ≡ at self.now number };
 }
 
 // A list of rules.
@@ -32,7 +36,9 @@ impl<R: Named + Copy> Numbered for &[R] {
 
     ghost count = { λ s. length s.now };
 
-    ghost at = { λ s. slice_get s.now };
+    ghost at = { λ s number. or_none R.scoped (slice_get s.now number) };
+
+    ghost lawful = { λ s number. none_laws R.scoped R.lawful (slice_get s.now number) };
 
     fn count(&self) -> usize {
         self.len()
@@ -50,7 +56,7 @@ pub struct Rules<S>(pub S);
 impl<S: Numbered> Rules<S> {
     // The rule with this number; None past the size, or where there is none.
     fn find(&self, number: usize) -> Option<S::Rule>
-        ensures { on_board (or_none S.Rule.scoped result) ≡ (ruled S.Rule.scoped (S.count self.now.0) (S.at self.now.0)).rule number }
+        ensures { on_board (or_none S.Rule.scoped result) ≡ (numbered (S.count self.now.0) (S.at self.now.0)).rule number }
     {
         if number < self.size() {
             self.0.rule(number)
@@ -61,9 +67,9 @@ impl<S: Numbered> Rules<S> {
 }
 
 impl<S: Numbered> Family for Rules<S> {
-    ghost meaning = { λ f. ruled S.Rule.scoped (S.count f.0) (S.at f.0) };
+    ghost meaning = { λ f. numbered (S.count f.0) (S.at f.0) };
 
-    ghost lawful = { λ f. numbered_lawful (S.count f.0) (λ r. or_none S.Rule.scoped (S.at f.0 r)) (λ r. none_laws S.Rule.scoped S.Rule.lawful (S.at f.0 r)) };
+    ghost lawful = { λ f. numbered_lawful (S.count f.0) (S.at f.0) (S.lawful f.0) };
 
     fn size(&self) -> usize {
         MOST_RULES.min(self.0.count())
@@ -80,6 +86,11 @@ impl<S: Numbered> Family for Rules<S> {
         if let Some(found) = self.find(rule) {
             named::mark(&found, marks);
         }
+    }
+
+    fn is_idempotent(&self, rule: usize) -> bool {
+        self.find(rule)
+            .is_some_and(|found| named::is_idempotent(&found))
     }
 
     fn narrow(&self, rule: usize, rows: &mut [Row]) -> Change {

@@ -1,6 +1,8 @@
 // Rules that stand as records in a file.
-ghost use Rattle.std.specs.Prelude.{◌≡◌, Option, length, slice_index};
+ghost use Rattle.std.specs.Prelude.{◌≡◌, length, slice_index};
+ghost use Rattle.bounds.specs.Scoped.{Scoped, ScopedLaws};
 ghost use Rattle.records.specs.declared.bytes.Spot.{Spot};
+ghost use Rattle.rules.specs.Numbers.{or_none};
 ghost use Rattle.rules.specs.Places.{Over};
 
 use crate::named::Named;
@@ -10,11 +12,14 @@ use std::marker::PhantomData;
 
 // A rule that is read from the record at a spot of a file.
 pub trait Recorded<'f>: Named + Drop {
-    ghost reads: { Spot → Option Self };
+    // What the record at a spot asks.
+    ghost reads: { Spot → Scoped };
 
-    // None where the record is of no rule.
+    ghost reads_lawful: { (spot : Spot) → ScopedLaws (reads spot) };
+
+    // None where it asks nothing.
     fn read(spot: Spot<'f>) -> Option<Self>
-        ensures { result ≡ reads spot.entry };
+        ensures { or_none Self.scoped result ≡ reads spot.entry };
 }
 
 // Where each record stands in the file.
@@ -31,6 +36,8 @@ impl<'f, R: Recorded<'f>> Numbered for Listed<'f, R> {
     ghost count = { λ s. length s.places.now };
 
     ghost at = { λ s number. R.reads (record { bytes = s.file; place = slice_index s.places.now number }) };
+
+    ghost lawful = { λ s number. R.reads_lawful (record { bytes = s.file; place = slice_index s.places.now number }) };
 
     fn count(&self) -> usize {
         self.places.len()

@@ -1,6 +1,7 @@
 -- How far the scan over the pending rules has come.
-use Rattle.std.proofs.Common.{◌≡◌, ℕ, ◌+◌, ◌<◌, ◌≤◌, true, ◌≢◌, List, length, Some, None, sym, refl, lt-ltb, ap, ◌∙◌, subst, inl, inr, arith}
+use Rattle.std.proofs.Common.{◌≡◌, ℕ, ◌+◌, ◌<◌, ◌≤◌, true, ◌≢◌, List, length, Option, Some, None, sym, refl, lt-ltb, ap, ◌∙◌, subst, inl, inr, arith}
 use Rattle.std.proofs.lemmas.Bool.{cases_eq, cases_lt}
+use Rattle.std.proofs.lemmas.Option.{none-some}
 use Rattle.bounds.specs.declared.row.Row.{Row}
 use Rattle.bounds.specs.Boards.{cells, sound, Real, spread}
 use Rattle.bounds.specs.Laws.{Meaning, FiveLaws, Rule}
@@ -14,18 +15,24 @@ use Rattle.settling.specs.declared.watchers.Watchers.{Watchers}
 use Rattle.settling.specs.Asleep.{Asleep, Woken}
 use Rattle.settling.specs.Plans.{Applies, more}
 use Rattle.settling.specs.Settles.{Settles}
-use Rattle.settling.specs.Watching.{Watching}
+use Rattle.settling.specs.Watching.{Watching, Rests}
 use Rattle.settling.proofs.Applied.{QuietBelow, lowest_narrows, lowest_voids, applied_keeps, applied_narrower}
 use Rattle.settling.proofs.Sleeps.{both, stays_quiet}
 
--- n applications led from the rows a to b, which are as they were when rules were last woken, and a rule that is not pending is quiet there
-pub record Scanned (m : Meaning) (a b : List Row) (n : ℕ) (pending : RuleSet) (before : List Row) : Type 0 where
+-- n applications led from the rows a to b, which are as they were when rules were last woken, and a rule that is not pending
+-- or is resting is quiet there
+pub record Scanned (m : Meaning) (a b : List Row) (n : ℕ) (pending : RuleSet) (before : List Row) (resting : Option ℕ) : Type 0 where
   pub applied : Applies m a b n
   pub asleep : Asleep m b pending
+  pub rests : (q : ℕ) → resting ≡ Some q → (m.rule q).narrowed b ≡ cells b
   pub seen : before ≡ b
   pub long : length b ≡ length a
 
-module _ (m : Meaning) (laws : FiveLaws m) (a b : List Row) (n : ℕ) (p : RuleSet) (f : List Row) (s : sound a ≡ true) (h : Scanned m a b n p f) where
+abbrev kept : ℕ → Option ℕ → ℕ
+kept d None = d
+kept d (Some q) = q
+
+module _ (m : Meaning) (laws : FiveLaws m) (a b : List Row) (n : ℕ) (p : RuleSet) (f : List Row) (o : Option ℕ) (s : sound a ≡ true) (h : Scanned m a b n p f o) where
   pub scanned_sound : sound b ≡ true
   scanned_sound = (applied_keeps m laws s h.applied).still_sound
 
@@ -58,29 +65,51 @@ module _ (m : Meaning) (laws : FiveLaws m) (a b : List Row) (n : ℕ) (p : RuleS
           subst (λ (x : List Row). Settles m a x (Void (n + 1))) (sym same)
           ((n, r, refl, h.applied, lowest_voids m b r l (below (omega arith)) voids, voids), scanned_sound, h.long)
 
+      -- a rule that need not be pending
+      asleep_without : (m.rule r).narrowed b ≡ cells b → (p' : RuleSet) → Removed p r p' → Asleep m b p'
+      asleep_without quiet p' gone q l off = elim (cases_eq q r) [
+        | inl same ↦ ap (λ i. (m.rule i).narrowed b) same ∙ quiet
+        | inr apart ↦ h.asleep q l (sym (gone.others q apart) ∙ off)
+      ]
+
+      pub scan_rests : (p' : RuleSet) → o ≡ Some r → Removed p r p' → Scanned m a b n p' f o
+      scan_rests p' same gone = record {
+        applied = h.applied;
+        asleep = asleep_without (h.rests r same) p' gone;
+        rests = h.rests;
+        seen = h.seen;
+        long = h.long;
+      }
+
       module _ (c : List Row) (p' : RuleSet) (f' : List Row) where
-        pub scan_quiet : Narrows (m.rule r).narrowed b c Quiet → Removed p r p' → f' ≡ c → Scanned m a c n p' f'
+        pub scan_quiet : Narrows (m.rule r).narrowed b c Quiet → Removed p r p' → f' ≡ c → Scanned m a c n p' f' o
         scan_quiet (quiet, same) gone seen =
-            subst (λ (x : List Row). f' ≡ x → Scanned m a x n p' f') (sym same) (λ e. record {
+            subst (λ (x : List Row). f' ≡ x → Scanned m a x n p' f' o) (sym same) (λ e. record {
               applied = h.applied;
-              asleep = λ q l no. elim (cases_eq q r) [
-                | inl is ↦ ap (λ i. (m.rule i).narrowed b) is ∙ quiet
-                | inr apart ↦ h.asleep q l (sym (gone.others q apart) ∙ no)
-              ];
+              asleep = asleep_without quiet p' gone;
+              rests = h.rests;
               seen = e;
               long = h.long;
             }) seen
 
-        pub scan_narrows : Narrows (m.rule r).narrowed b c Narrowed → Woken w b c p p' → f' ≡ c → length c ≡ length b → Scanned m a c (n + 1) p' f'
-        scan_narrows (narrows, moved) woken seen long =
+        resting_now : (o' : Option ℕ) → Rests w r o' → (m.rule r).narrowed b ≡ cells c
+            → (q : ℕ) → o' ≡ Some q → (m.rule q).narrowed c ≡ cells c
+        resting_now None rest narrows q e = absurd (none-some q e)
+        resting_now (Some q') (same, known) narrows q e =
+            ap (λ i. (m.rule i).narrowed c) (sym (ap (kept q) e) ∙ same) ∙ is.known r known b c scanned_sound narrows
+
+        pub scan_narrows : (o' : Option ℕ) → Rests w r o' → Narrows (m.rule r).narrowed b c Narrowed → Woken w b c p p' → f' ≡ c
+            → length c ≡ length b → Scanned m a c (n + 1) p' f' o'
+        scan_narrows o' rest (narrows, moved) woken seen long =
             let l = listed (λ e. moved (cells_same c b (sym narrows ∙ e))) in
             let t = subst Real narrows ((laws.each r).real b scanned_sound) in record {
               applied = more h.applied r (lowest_narrows m b r l (below (omega arith)) c narrows moved) narrows;
               asleep = λ q k no.
                   let (was, unstirred) = woken q (omega (arith, is.room)) no in
                   stays_quiet m laws b c q scanned_sound t (sym long)
-                  (λ i j touched. unstirred i (omega arith) (is.listed i q j ∙ both _ _ (lt-ltb q m.size k) touched))
+                  (λ i j touched. unstirred i (omega arith) (omega arith) (is.listed i q j ∙ both _ _ (lt-ltb q m.size k) touched))
                   (h.asleep q k was);
+              rests = resting_now o' rest narrows;
               seen = seen;
               long = long ∙ h.long;
             }

@@ -1,6 +1,6 @@
 -- The rules by the cells that they touch.
-use Rattle.std.specs.Prelude.{◌≡◌, ℕ, ◌*◌, ◌<◌, ◌≤◌, ◌&&◌, nat_lt, Bool, false, ◌≢◌, List, slice_index_or}
-use Rattle.bounds.specs.Laws.{Meaning}
+use Rattle.std.specs.Prelude.{◌≡◌, ℕ, ◌*◌, ◌<◌, ◌≤◌, ◌&&◌, nat_lt, Bool, true, false, ◌≢◌, List, slice_index_or, Option, Some, None}
+use Rattle.bounds.specs.Laws.{Meaning, Idempotent}
 use Rattle.rule_sets.specs.declared.rule_set.RuleSet.{RuleSet}
 use Rattle.rule_sets.specs.Members.{has, no_rules}
 use Rattle.settling.specs.declared.watchers.Watchers.{Watchers}
@@ -13,17 +13,28 @@ watching w c = slice_index_or w.by_cell c no_rules
 abbrev pub ListedBelow : Meaning → ℕ → ℕ → Watchers → Type 0
 ListedBelow m n r w = (c q : ℕ) → c < n → has (watching w c) q ≡ (nat_lt q r && (m.rule q).touches n c)
 
+-- each rule of the set is idempotent
+abbrev pub AllIdempotent : Meaning → RuleSet → Type 0
+AllIdempotent m s = (q : ℕ) → has s q ≡ true → Idempotent (m.rule q)
+
 pub record Watching (m : Meaning) (n : ℕ) (w : Watchers) : Type 0 where
   pub room : m.size ≤ 64 * w.words
   pub few : w.words ≤ 64
   pub listed : ListedBelow m n m.size w
+  pub known : AllIdempotent m w.idempotent
 
 -- rule r is listed with the cells that it touches, where no other is listed anew
 pub record Listed (m : Meaning) (n r : ℕ) (w w' : Watchers) : Type 0 where
   pub words : w'.words ≡ w.words
+  pub idempotent : w'.idempotent ≡ w.idempotent
   pub rule : (c : ℕ) → c < n → has (watching w c) r ≡ false → has (watching w' c) r ≡ (m.rule r).touches n c
   pub others : (c q : ℕ) → q ≢ r → has (watching w' c) q ≡ has (watching w c) q
 
 -- the marks are of the cells of n that the rule touches
 abbrev pub Touches : Meaning → ℕ → ℕ → List Bool → Type 0
 Touches m n r marks = (c : ℕ) → c < n → slice_index_or marks c false ≡ (m.rule r).touches n c
+
+-- the rule itself, where it is noted as idempotent
+abbrev pub Rests : Watchers → ℕ → Option ℕ → Type 0
+Rests w r None = Unit {0}
+Rests w r (Some q) = (q ≡ r) × (has w.idempotent r ≡ true)

@@ -1,8 +1,8 @@
 // What narrows rows until no rule narrows them.
-ghost use Rattle.std.specs.Prelude.{◌≡◌, ◌+◌, ◌*◌, ◌<◌, ◌≤◌, ◌==◌, ◌&&◌, not, true, length};
-ghost use Rattle.bounds.specs.Boards.{sound, spread};
+ghost use Rattle.std.specs.Prelude.{◌≡◌, ◌+◌, ◌*◌, ◌<◌, ◌≤◌, ◌==◌, ◌&&◌, true, length, slice_index_or};
+ghost use Rattle.bounds.specs.Boards.{sound, spread, none_row};
 ghost use Rattle.rule_families.specs.Narrows.{Narrows};
-ghost use Rattle.settling.specs.Asleep.{Asleep, Woken, Marked};
+ghost use Rattle.settling.specs.Asleep.{Asleep, Woken, WokenIn, Taken, Same, Marked};
 ghost use Rattle.settling.specs.Settles.{Settles};
 ghost use Rattle.settling.specs.Watching.{Watching};
 
@@ -43,13 +43,22 @@ pub fn settle_from<F: Family>(
     ensures { Settles (F.meaning family.now) rows.old rows.new result }
 {
     let mut pending = *pending;
+    let mut resting = None;
     before.copy_from_slice(rows);
     // Each application takes one at least from the width.
     'scan: for applied in 0..width(rows) {
         while let Some(rule) = pending.first(watchers.words) {
+            // Pending as any rule that narrowed, but known to be quiet until another narrows.
+            if resting == Some(rule) {
+                pending.remove(rule);
+                continue;
+            }
             match apply(family, watchers, rule, rows, before, &mut pending) {
                 Change::Quiet => {}
-                Change::Narrowed => continue 'scan,
+                Change::Narrowed => {
+                    resting = watchers.resting(rule);
+                    continue 'scan;
+                }
                 Change::Void => return Settled::Void(applied + 1),
             }
         }
@@ -79,10 +88,7 @@ fn apply<F: Family>(
     let change = family.narrow(rule, rows);
     match change {
         Change::Quiet => pending.remove(rule),
-        Change::Narrowed => {
-            wake(watchers, before, rows, pending);
-            before.copy_from_slice(rows);
-        }
+        Change::Narrowed => wake(watchers, before, rows, pending),
         Change::Void => {}
     }
     change
@@ -101,25 +107,70 @@ fn width(rows: &[Row]) -> u32
     width
 }
 
-// Makes every rule pending that touches a cell whose row changed.
-fn wake(watchers: &Watchers, before: &[Row], rows: &[Row], pending: &mut RuleSet)
+// Makes every rule pending that touches a cell whose row changed, and takes over the row.
+// Kept: most rows stay, so that four are passed at a time; and it is not inlined, so that the scan takes no registers from it.
+#[inline(never)]
+fn wake(watchers: &Watchers, before: &mut [Row], rows: &[Row], pending: &mut RuleSet)
     requires few { length rows.now ≤ 1024 }
     requires words { watchers.now.words ≤ 64 }
-    requires before { length before.now ≡ length rows.now }
-    ensures { Woken watchers.now before.now rows.now pending.old pending.new }
+    requires before { length before.old ≡ length rows.now }
+    ensures woken { Woken watchers.now before.old rows.now pending.old pending.new }
+    ensures before { before.new ≡ rows.now }
 {
-    for (cell, row) in rows.iter().enumerate() {
-        if differ(before[cell], *row) {
+    let mut cell = 0;
+    while cell + 4 <= rows.len() {
+        if !four_stay(before, rows, cell) {
+            wake_among(watchers, cell, cell + 4, before, rows, pending);
+        }
+        cell += 4;
+    }
+    wake_among(watchers, cell, rows.len(), before, rows, pending);
+}
+
+// The same of the cells from one on to another.
+#[inline(never)]
+fn wake_among(
+    watchers: &Watchers,
+    from: usize,
+    to: usize,
+    before: &mut [Row],
+    rows: &[Row],
+    pending: &mut RuleSet,
+)
+    requires few { length rows.now ≤ 1024 }
+    requires words { watchers.now.words ≤ 64 }
+    requires before { length before.old ≡ length rows.now }
+    requires range { (from ≤ to) × (to ≤ length rows.now) }
+    ensures woken { WokenIn watchers.now from to before.old rows.now pending.old pending.new }
+    ensures before { Taken from to before.old rows.now before.new }
+{
+    for cell in from..to {
+        let row = rows[cell];
+        if !stays(before[cell], row) {
+            before[cell] = row;
             pending.unite(&watchers.by_cell[cell], watchers.words);
         }
     }
 }
 
-// Whether a bound differs.
-fn differ(a: Row, b: Row) -> bool
-    ensures { result ≡ not (a.low == b.low && a.high == b.high) }
+// Whether the four rows from a cell on are the same.
+fn four_stay(before: &[Row], rows: &[Row], cell: usize) -> bool
+    requires few { length rows.now ≤ 1024 }
+    requires before { length before.now ≡ length rows.now }
+    requires cell { cell + 4 ≤ length rows.now }
+    ensures { result ≡ true → Same cell (cell + 4) before.now rows.now }
 {
-    word(a) != word(b)
+    stays(before[cell], rows[cell])
+        && stays(before[cell + 1], rows[cell + 1])
+        && stays(before[cell + 2], rows[cell + 2])
+        && stays(before[cell + 3], rows[cell + 3])
+}
+
+// Whether both bounds are the same.
+fn stays(a: Row, b: Row) -> bool
+    ensures { result ≡ (a.low == b.low && a.high == b.high) }
+{
+    word(a) == word(b)
 }
 
 // Both bounds as one word, which is compared faster than they are one by one.

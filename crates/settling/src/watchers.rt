@@ -1,6 +1,6 @@
 // The rules of a family by the cells that they touch.
 ghost use Rattle.std.specs.Prelude.{◌≡◌, ◌<◌, ◌≤◌, length};
-ghost use Rattle.settling.specs.Watching.{Watching, Listed, Touches};
+ghost use Rattle.settling.specs.Watching.{Watching, Listed, Touches, AllIdempotent, Rests};
 
 use rule_families::family::Family;
 use rule_sets::rule_set::RuleSet;
@@ -8,11 +8,12 @@ use rule_sets::rule_set::RuleSet;
 // A board has no more cells.
 pub const MOST_CELLS: usize = 1024;
 
-// For each cell the rules that touch it, and how many words of a set hold all rules.
+// For each cell the rules that touch it, how many words of a set hold all rules, and those that are known to be idempotent.
 #[derive(Drop)]
 pub struct Watchers {
     pub by_cell: [RuleSet; MOST_CELLS],
     pub words: usize,
+    pub idempotent: RuleSet,
 }
 
 impl Watchers {
@@ -23,11 +24,20 @@ impl Watchers {
         let mut watchers = Watchers {
             by_cell: [RuleSet::none(); MOST_CELLS],
             words: family.size().div_ceil(64),
+            idempotent: idempotent_rules(family),
         };
         for rule in 0..family.size() {
             watchers.list(family, rule, cells);
         }
         watchers
+    }
+
+    // The rule, if it is known to be quiet on rows that it has narrowed.
+    pub fn resting(&self, rule: usize) -> Option<usize>
+        requires { rule < 4096 }
+        ensures { Rests self.now rule result }
+    {
+        self.idempotent.contains(rule).then_some(rule)
     }
 
     // Lists the rule with each cell that it touches.
@@ -45,6 +55,20 @@ impl Watchers {
             }
         }
     }
+}
+
+// The rules that are known to be idempotent.
+#[tactic(auto, using(crate::proofs::Lists::none_known, crate::proofs::Lists::known_more))]
+fn idempotent_rules<F: Family>(family: &F) -> RuleSet
+    ensures { AllIdempotent (F.meaning family.now) result }
+{
+    let mut known = RuleSet::none();
+    for rule in 0..family.size() {
+        if family.is_idempotent(rule) {
+            known.insert(rule);
+        }
+    }
+    known
 }
 
 // Marks the cells that the rule touches, and no others.

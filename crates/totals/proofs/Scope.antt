@@ -19,6 +19,10 @@ module _ (t : Total) (i : ℕ) (h : i < length (total_scoped (record_of t)).scop
   pub named_few : i < 64
   named_few = let e = named_lawful (record_of t) i h in omega (arith, (lawful_says (record_of t) e).few, scope_length (record_of t) e)
 
+  pub named_inside : i < number 2 t.spot.bytes.now t.spot.place
+  named_inside = let e = named_lawful (record_of t) i h in
+      omega (arith, scope_length (record_of t) e, length_terms (number 2 t.spot.bytes.now t.spot.place) t.spot.bytes.now (t.spot.place + 18))
+
   pub named_cell : get_or (total_scoped (record_of t)).scope i 0 ≡ number 2 t.spot.bytes.now (t.spot.place + 18 + 6 * i)
   named_cell =
       let e = named_lawful (record_of t) i h in

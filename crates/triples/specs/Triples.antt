@@ -5,9 +5,10 @@ use Rattle.bounds.specs.declared.row.Row.{Row}
 use Rattle.bounds.specs.Boards.{sound}
 use Rattle.bounds.specs.Exact.{exact}
 use Rattle.bounds.specs.Laws.{Meaning}
-use Rattle.bounds.specs.Scoped.{Scoped, on_board, exact_on}
+use Rattle.bounds.specs.Scoped.{Scoped, ScopedLaws, on_board, exact_on}
 use Rattle.bounds.specs.Listed.{listed}
-use Rattle.rules.specs.Numbers.{or_none}
+use Rattle.bounds.proofs.Lifted.{exact_on_laws}
+use Rattle.rules.specs.Numbers.{or_none, none_laws}
 use Rattle.records.specs.Kinds.{triple_kind}
 use Rattle.records.specs.Records.{triple_at}
 use Rattle.records.specs.declared.triples.TripleKind.{TripleKind}
@@ -51,6 +52,9 @@ few_named Subset a b c = lit≤ tt
 -- where none stands, the rule has no cells and asks nothing
 abbrev pub triple_rule : List ℕ → ℕ → Scoped
 triple_rule f i = or_none rule_of (read f i)
+
+pub triple_laws : (f : List ℕ) (i : ℕ) → ScopedLaws (triple_rule f i)
+triple_laws f i = none_laws rule_of (λ t. exact_on_laws (scope t.kind t.a t.b t.c) (relation t.kind)) (read f i)
 
 abbrev pub triples : List ℕ → List ℕ → Meaning
 triples file places = listed triple_rule file places

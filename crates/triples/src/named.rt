@@ -34,6 +34,10 @@ impl Named for Triple {
 
     ghost few = { λ t. few_named t.kind t.a t.b t.c };
 
+    fn is_exact(&self) -> bool {
+        true
+    }
+
     fn narrow_own(&self, own: &mut [Row]) -> Change {
         // Kept: a subset takes two rows and the others three, so that no one closure or pointer type stands for the four.
         match self.kind {

@@ -2,7 +2,7 @@
 // Kept: c stands beside the kind as it stands in the record of each kind, where a subset has a number too.
 ghost use Rattle.std.specs.Prelude.{◌≡◌, true};
 ghost use Rattle.bounds.specs.Scoped.{distinct};
-ghost use Rattle.triples.specs.Triples.{read, rule_of, ExactOnBoards};
+ghost use Rattle.triples.specs.Triples.{rule_of, triple_rule, triple_laws, ExactOnBoards};
 
 use bounds::scope::distinct;
 use records::body::BodyKind;
@@ -19,7 +19,9 @@ pub struct Triple {
 }
 
 impl Recorded<'_> for Triple {
-    ghost reads = { λ spot. read spot.bytes.now spot.place };
+    ghost reads = { λ spot. triple_rule spot.bytes.now spot.place };
+
+    ghost reads_lawful = { λ spot. triple_laws spot.bytes.now spot.place };
 
     // None where the kind is unknown.
     fn read(spot: Spot<'_>) -> Option<Triple> {

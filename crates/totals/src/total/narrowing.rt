@@ -19,7 +19,12 @@ impl Total<'_> {
         requires few { i < 64 }
         ensures { result ≡ slice_index (weights self.entry) i }
     {
-        self.spot.u32(Totals::HEAD + 6 * i + 2)
+        let offset = Totals::HEAD + 6 * i + 2;
+        if self.whole {
+            self.spot.u32_inside(offset)
+        } else {
+            self.spot.u32(offset)
+        }
     }
 
     #[tactic(auto, using(crate::proofs::Limits::limiting))]

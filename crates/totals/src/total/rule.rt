@@ -25,7 +25,12 @@ impl Scope for Total<'_> {
     // Kept: only cells that there are are asked for; the record's `name` reads the count again for each, which took the planner 16 percent longer over 14 thousand search nodes.
     #[tactic(auto, using(crate::proofs::Scope::named_cell))]
     fn cell(&self, i: usize) -> usize {
-        usize::from(self.spot.u16(Totals::HEAD + 6 * i))
+        let offset = Totals::HEAD + 6 * i;
+        usize::from(if self.whole {
+            self.spot.u16_inside(offset)
+        } else {
+            self.spot.u16(offset)
+        })
     }
 }
 

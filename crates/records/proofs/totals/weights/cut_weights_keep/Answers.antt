@@ -4,7 +4,7 @@ use Rattle.std.proofs.lemmas.Iterator.Search.{all_from_yields_List}
 use Rattle.records.specs.Records.{Term, total_at}
 use Rattle.records.specs.Forms.{between}
 use Rattle.records.proofs.Fields.{length_terms, length_cells, weighted_by_index}
-use Rattle.records.proofs.totals.weights.weights_keep.Goals as goal
+use Rattle.records.proofs.totals.weights.cut_weights_keep.Goals as goal
 
 pub returns : goal.returns
 returns c =
