@@ -49,14 +49,21 @@ impl<'f> Spot<'f> {
         requires { self.place + offset + 2 ≤ length self.bytes.now }
         ensures { result ≡ number 2 self.entry.bytes.now (self.entry.place + offset) }
     {
-        u16::from_le_bytes(bytes_inside(self.bytes, self.place + offset))
+        let place = self.place + offset;
+        u16::from_le_bytes([self.bytes[place], self.bytes[place + 1]])
     }
 
     pub fn u32_inside(self, offset: usize) -> u32
         requires { self.place + offset + 4 ≤ length self.bytes.now }
         ensures { result ≡ number 4 self.entry.bytes.now (self.entry.place + offset) }
     {
-        u32::from_le_bytes(bytes_inside(self.bytes, self.place + offset))
+        let place = self.place + offset;
+        u32::from_le_bytes([
+            self.bytes[place],
+            self.bytes[place + 1],
+            self.bytes[place + 2],
+            self.bytes[place + 3],
+        ])
     }
 
     // What stands from the place on: nothing past the end.
@@ -85,15 +92,6 @@ fn bytes_at<const N: usize>(file: &[u8], place: usize) -> [u8; N]
         return *whole;
     }
     cut_off(file, place)
-}
-
-// The same where they are known to end within the file.
-fn bytes_inside<const N: usize>(file: &[u8], place: usize) -> [u8; N]
-    requires { place + N ≤ length file.now }
-    ensures long { length result ≡ N }
-    ensures each { (i : ℕ) → i < N → slice_index result i ≡ slice_index file.now (place + i) }
-{
-    *file[place..].first_chunk().unwrap()
 }
 
 // The same where the file's end cuts them off.

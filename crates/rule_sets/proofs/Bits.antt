@@ -11,7 +11,7 @@ use Rattle.std.proofs.lemmas.Nat.{and_le_l}
 use Rattle.std.proofs.lemmas.Nat.Bits.{bit_at_set_same, bit_at_set_other, bit_at_clear_same, bit_at_clear_other, bit_at-lt, bit_at_or, bit_at-zero, bit_at-trailing_zeros}
 use Rattle.std.specs.Int.{bit_at, bit_not, trailing_zeros}
 use Rattle.rule_sets.specs.declared.rule_set.RuleSet.{RuleSet}
-use Rattle.rule_sets.specs.Members.{has, some_rule, WithBit, WithoutBit, Empty, Inserted, Removed, United, Lowest}
+use Rattle.rule_sets.specs.Members.{has, some_rule, WithBit, WithoutBit, Empty, Inserted, Removed, United, Lowest, LowestBit}
 
 -- the bit of rule r in the words
 abbrev bit : List ℕ → ℕ → ℕ
@@ -130,3 +130,6 @@ lowest_some s n w fits l e =
             ∙ no_bit (get_or (take n s.words) (r / 64) 0) (r % 64) (at.2 (r / 64) (omega (arith, low.0)))
       ],
     )
+
+pub lowest_of : (n : ℕ) → 0 < n → n < 2 ^ 64 → LowestBit n (Some (trailing_zeros w64 n))
+lowest_of n some fits = let low = bit_at-trailing_zeros w64 n some fits in (low.1, low.0)

@@ -49,3 +49,7 @@ United s o words t = (r : ℕ) → has t r ≡ (has s r || (nat_lt r (64 * words
 abbrev pub Lowest : RuleSet → ℕ → Option ℕ → Type 0
 Lowest s words None = (r : ℕ) → r < 64 * words → has s r ≡ false
 Lowest s words (Some r) = (has s r ≡ true) × (r < 64 * words) × ((q : ℕ) → q < r → has s q ≡ false)
+
+abbrev pub LowestBit : ℕ → Option ℕ → Type 0
+LowestBit n None = n ≡ 0
+LowestBit n (Some k) = (bit_at n k ≡ 1) × (k < 64)

@@ -1,6 +1,6 @@
 // Sets of rules.
 ghost use Rattle.std.specs.Prelude.{◌≡◌, ◌<◌, ◌≤◌, take, position};
-ghost use Rattle.rule_sets.specs.Members.{has, some_rule, Empty, Below, Inserted, Removed, WithBit, WithoutBit, United, Lowest};
+ghost use Rattle.rule_sets.specs.Members.{has, some_rule, Empty, Below, Inserted, Removed, WithBit, WithoutBit, United, Lowest, LowestBit};
 
 use rule_families::family::MOST_RULES;
 
@@ -86,16 +86,27 @@ impl RuleSet {
     }
 }
 
-fn with_bit(word: u64, bit: usize) -> u64
+// Words are sets of the numbers below 64 in the same way.
+pub fn with_bit(word: u64, bit: usize) -> u64
     requires { bit < 64 }
     ensures { WithBit word bit result }
 {
     word | 1 << bit
 }
 
-fn without_bit(word: u64, bit: usize) -> u64
+pub fn without_bit(word: u64, bit: usize) -> u64
     requires { bit < 64 }
     ensures { WithoutBit word bit result }
 {
     word & !(1 << bit)
+}
+
+// Kept: nothing is proved of the closure that `then` would take.
+pub fn lowest_bit(word: u64) -> Option<usize>
+    ensures { LowestBit word result }
+{
+    if word == 0 {
+        return None;
+    }
+    Some(word.trailing_zeros() as usize)
 }

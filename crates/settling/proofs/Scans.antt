@@ -107,7 +107,7 @@ module _ (m : Meaning) (laws : FiveLaws m) (a b : List Row) (n : ℕ) (p : RuleS
               asleep = λ q k no.
                   let (was, unstirred) = woken q (omega (arith, is.room)) no in
                   stays_quiet m laws b c q scanned_sound t (sym long)
-                  (λ i j touched. unstirred i (omega arith) (omega arith) (is.listed i q j ∙ both _ _ (lt-ltb q m.size k) touched))
+                  (λ i j touched. unstirred i (omega arith) tt (is.listed i q j ∙ both _ _ (lt-ltb q m.size k) touched))
                   (h.asleep q k was);
               rests = resting_now o' rest narrows;
               seen = seen;

@@ -1,12 +1,13 @@
 -- A quiet rule stays quiet where no cell that it touches changes.
-use Rattle.std.proofs.Common.{◌≡◌, ℕ, ◌<◌, ◌&&◌, Bool, true, List, length, set, lt-ltb, length-set, sym, refl, ap, ◌∙◌, subst, inl, inr, arith}
-use Rattle.std.proofs.lemmas.Bool.{cases_Bool, cases_eq, true≢false}
+use Rattle.std.proofs.Common.{◌≡◌, ℕ, ◌%◌, ◌<◌, ◌&&◌, Bool, true, List, length, get_or, set, lt-ltb, length-set, sym, refl, ap, ◌∙◌, subst, inl, inr, arith}
+use Rattle.std.specs.Int.{bit_at}
+use Rattle.std.proofs.lemmas.Bool.{cases_Bool, cases_eq, cases_lt, true≢false}
 use Rattle.std.proofs.lemmas.List.{get_or-set_other}
 use Rattle.bounds.specs.declared.row.Row.{Row}
 use Rattle.bounds.specs.Boards.{Board, void, cells, sound, Within, none_row}
-use Rattle.bounds.specs.Laws.{Meaning, FiveLaws, Touched, Alike}
+use Rattle.bounds.specs.Laws.{Meaning, FiveLaws, Rule, Touched, Alike}
 use Rattle.settling.specs.declared.watchers.Watchers.{Watchers}
-use Rattle.settling.specs.Asleep.{Asleep}
+use Rattle.settling.specs.Asleep.{Asleep, SameOutside}
 use Rattle.settling.specs.Plans.{Still}
 use Rattle.settling.specs.Watching.{Watching, watching}
 use Rattle.bounds.proofs.Rows.{inside_length}
@@ -40,3 +41,19 @@ module _ (m : Meaning) (laws : FiveLaws m) (a : List Row) (c : ℕ) (x : Row) (w
             ∙ both _ _ (lt-ltb q m.size l) ((λ j. (m.rule q).touches (sym long j) (sym is j)) ∙ touched)) ∙ asleep))
         | inr apart ↦ sym (get_or-set_other a c k x none_row apart)
       ]) (quiet q l)
+
+-- a narrowing changes no cell whose bit the rule does not have
+module _ (m : Meaning) (laws : FiveLaws m) (w : Watchers) (a b : List Row) (r : ℕ) (at : Watching m (length a) w) where
+  reached : (c : ℕ) → c < length a → (m.rule r).touches (length a) c ≡ true → bit_at (get_or w.reach r 0) (c % 64) ≡ 1
+  reached c l touched = elim (cases_lt r m.size) [
+    | inl k ↦ at.reach r k c l touched
+    | inr g ↦ absurd (true≢false (sym touched ∙ ap (λ (u : Rule). u.touches (length a) c) (laws.beyond r g)))
+  ]
+
+  pub same_outside : sound a ≡ true → (m.rule r).narrowed a ≡ cells b → SameOutside (get_or w.reach r 0) a b
+  same_outside s e c l zero =
+      let n = inside_length b a (subst (λ (x : Board). Within x (cells a)) e ((laws.each r).within a s)) in
+      elim (cases_Bool ((m.rule r).touches (length a) c)) [
+        | inl u ↦ absurd (omega (arith, zero, reached c (omega arith) u))
+        | inr u ↦ (laws.each r).local_frame a b s e c (omega arith) u
+      ]

@@ -1,121 +1,161 @@
--- How far the rules are woken, cell by cell, and the rows taken over.
-use Rattle.std.proofs.Common.{◌≡◌, ℕ, ◌+◌, ◌*◌, ◌<◌, ◌≤◌, ◌||◌, Bool, true, false, List, length, get_or, set, length-set, sym, refl, lt-ltb, ap, ◌∙◌, subst, inl, inr, arith}
+-- How far the rules are woken and the rows taken over: more cells, one by one and bit by bit.
+use Rattle.std.proofs.Common.{◌≡◌, ℕ, ◌+◌, ◌*◌, ◌%◌, ◌<◌, ◌≤◌, ◌||◌, Bool, true, false, ◌≢◌, ◌⊎◌, List, length, get_or, set, length-set, sym, refl, lt-ltb, ap, ◌∙◌, subst, inl, inr, arith}
+use Rattle.std.specs.Int.{bit_at}
 use Rattle.std.proofs.lemmas.Bool.{cases_eq, cases_lt, true≢false}
 use Rattle.std.proofs.lemmas.List.{ext_get_or, get_or-set_same, get_or-set_other}
+use Rattle.std.proofs.lemmas.Nat.Bits.{bit_at-lt, bit_at-zero}
 use Rattle.bounds.specs.declared.row.Row.{Row}
 use Rattle.bounds.specs.Boards.{none_row}
 use Rattle.rule_sets.specs.declared.rule_set.RuleSet.{RuleSet}
-use Rattle.rule_sets.specs.Members.{has, United}
+use Rattle.rule_sets.specs.Members.{has, United, WithoutBit}
 use Rattle.settling.specs.declared.watchers.Watchers.{Watchers}
 use Rattle.settling.specs.Watching.{watching}
-use Rattle.settling.specs.Asleep.{Unstirred, WokenIn, Same, Taken}
+use Rattle.settling.specs.Asleep.{Unstirred, WokenAmong, Woken, Taken, SameOutside}
 use Rattle.settling.proofs.Sleeps.{both}
 
-module _ (w : Watchers) (a b : List Row) (i : ℕ) where
-  pub none_woken : (p : RuleSet) → WokenIn w i i a b p p
-  none_woken p q l n = (n, λ c m o. absurd (omega arith))
+-- P holds of cell k and of those of which it held before, and of no more
+pub record OneMore (P P' : ℕ → Type 0) (k : ℕ) : Type 0 where
+  pub one : (c : ℕ) → P' c → P c ⊎ (c ≡ k)
+  pub kept : (c : ℕ) → P c → P' c
+  pub here : P' k
+  pub apart : P k → ⊥
 
-  module _ (k : ℕ) (p p' : RuleSet) (h : WokenIn w i k a b p p') where
-    more : (q : ℕ) → Unstirred w i k a b q → (has (watching w k) q ≡ true → get_or a k none_row ≡ get_or b k none_row) → Unstirred w i (k + 1) a b q
-    more q u here c m l touched = elim (cases_eq c k) [
-      | inl e ↦ ap (λ j. get_or a j none_row) e ∙ here (ap (λ j. has (watching w j) q) (sym e) ∙ touched) ∙ ap (λ j. get_or b j none_row) (sym e)
-      | inr n ↦ u c m (omega arith) touched
+module _ (w : Watchers) (a b : List Row) (P P' : ℕ → Type 0) (k : ℕ) (more : OneMore P P' k) where
+  module _ (p p' : RuleSet) (h : WokenAmong w P a b p p') where
+    stir : (q : ℕ) → Unstirred w P a b q → (has (watching w k) q ≡ true → get_or a k none_row ≡ get_or b k none_row) → Unstirred w P' a b q
+    stir q u same c l m touched = elim (more.one c m) [
+      | inl m ↦ u c l m touched
+      | inr e ↦ ap (λ j. get_or a j none_row) e ∙ same (ap (λ j. has (watching w j) q) (sym e) ∙ touched) ∙ ap (λ j. get_or b j none_row) (sym e)
     ]
 
-    pub same_row : get_or a k none_row ≡ get_or b k none_row → WokenIn w i (k + 1) a b p p'
-    same_row e q l n = let (was, u) = h q l n in (was, more q u (λ _. e))
+    pub same_row : get_or a k none_row ≡ get_or b k none_row → WokenAmong w P' a b p p'
+    same_row e q l off = let (was, u) = h q l off in (was, stir q u (λ _. e))
 
     neither : (x y : Bool) → (x || y) ≡ false → (x ≡ false) × (y ≡ false)
     neither true y e = absurd (true≢false e)
     neither false y e = (refl, e)
 
-    pub woken_here : (p'' : RuleSet) → United p' (watching w k) w.words p'' → WokenIn w i (k + 1) a b p p''
-    woken_here p'' u q l n =
-        let (was, not_here) = neither (has p' q) _ (sym (u q) ∙ n) in
+    pub woken_here : (p'' : RuleSet) → United p' (watching w k) w.words p'' → WokenAmong w P' a b p p''
+    woken_here p'' u q l off =
+        let (was, not_here) = neither (has p' q) _ (sym (u q) ∙ off) in
         let (was, same) = h q l was in
-        (was, more q same (λ here. absurd (true≢false (sym (both _ _ (lt-ltb q (64 * w.words) l) here) ∙ not_here))))
+        (was, stir q same (λ here. absurd (true≢false (sym (both _ _ (lt-ltb q (64 * w.words) l) here) ∙ not_here))))
 
--- the cells up to k, and then those up to n
-module _ (w : Watchers) (a b a' : List Row) (k n : ℕ) (on : k ≤ n) (few : n ≤ length a) (t : Taken 0 k a b a') where
-  pub woken_on : (p p' p'' : RuleSet) → WokenIn w 0 k a b p p' → WokenIn w k n a' b p' p'' → WokenIn w 0 n a b p p''
-  woken_on p p' p'' h f q l off =
-      let (not_then, after) = f q l off in
-      let (was, before) = h q l not_then in (
-        was,
-        λ c m o touched. elim (cases_lt c k) [
-          | inl o ↦ before c m o touched
-          | inr g ↦ sym (t.above c g (omega arith)) ∙ after c g o touched
-        ],
-      )
+  module _ (a' : List Row) (t : Taken P a b a') where
+    pub row_before : get_or a' k none_row ≡ get_or a k none_row
+    row_before = t.others k more.apart
 
-  pub taken_on : (a'' : List Row) → Taken k n a' b a'' → Taken 0 n a b a''
-  taken_on a'' f = record {
-    long = f.long ∙ t.long;
-    inside = λ c m o. elim (cases_lt c k) [
-      | inl o ↦ f.below c m o ∙ t.inside c m o
-      | inr g ↦ f.inside c g o
-    ];
-    below = λ c m o. absurd (omega arith);
-    above = λ c g o. let long = t.long in elim (cases_lt c k) [
-      | inl l ↦ absurd (omega arith)
-      | inr g' ↦ f.above c g (omega arith) ∙ t.above c g' o
-    ];
-  }
+    pub row_stays : get_or a' k none_row ≡ get_or b k none_row → Taken P' a b a'
+    row_stays e = record {
+      long = t.long;
+      taken = λ c l m. elim (more.one c m) [
+        | inl m ↦ t.taken c l m
+        | inr is ↦ ap (λ j. get_or a' j none_row) is ∙ e ∙ ap (λ j. get_or b j none_row) (sym is)
+      ];
+      others = λ c not. t.others c (λ m. not (more.kept c m));
+    }
 
--- the cells from k to n stay
-module _ (a' b : List Row) (k n : ℕ) (same : Same k n a' b) where
-  pub woken_stay : (w : Watchers) (p : RuleSet) → WokenIn w k n a' b p p
-  woken_stay w p q l off = (off, λ c m o touched. same c m o)
+    pub row_taken : k < length a' → Taken P' a b (set a' k (get_or b k none_row))
+    row_taken l = let row = get_or b k none_row in record {
+      long = length-set a' k row ∙ t.long;
+      taken = λ c o m. elim (cases_eq c k) [
+        | inl is ↦ ap (λ j. get_or (set a' k row) j none_row) is ∙ get_or-set_same a' k row none_row l ∙ ap (λ j. get_or b j none_row) (sym is)
+        | inr apart ↦ get_or-set_other a' k c row none_row apart ∙ t.taken c o (elim (more.one c m) [ inl m ↦ m | inr is ↦ absurd (apart is) ])
+      ];
+      others = λ c not. let apart : c ≢ k = λ is. not (subst P' (sym is) more.here) in
+          get_or-set_other a' k c row none_row apart ∙ t.others c (λ m. not (more.kept c m));
+    }
 
-  pub taken_stay : Taken k n a' b a'
-  taken_stay = record { long = refl; inside = same; below = λ c m o. refl; above = λ c m o. refl }
+-- the cells from one on, up to k and then k too, of every 64th
+abbrev pub Stepped : ℕ → ℕ → ℕ → Type 0
+Stepped first k c = (c % 64 ≡ first) × (c < k)
 
-pub none_taken : (a b : List Row) (i : ℕ) → Taken i i a b a
-none_taken a b i = record { long = refl; inside = λ c m o. absurd (omega arith); below = λ c m o. refl; above = λ c m o. refl }
+pub step : (first k : ℕ) → k % 64 ≡ first → OneMore (Stepped first k) (Stepped first (k + 64)) k
+step first k e = record {
+  one = λ c m. elim (cases_lt c k) [
+    | inl l ↦ inl (m.0, l)
+    | inr g ↦ inr (omega (arith, m.0, m.1, e))
+  ];
+  kept = λ c m. (m.0, omega (arith, m.1));
+  here = (e, omega arith);
+  apart = λ m. omega (arith, m.1);
+}
 
-pub all_taken : (a b a' : List Row) → length a ≡ length b → Taken 0 (length b) a b a' → a' ≡ b
-all_taken a b a' e t = ext_get_or none_row a' b (t.long ∙ e) (λ c l. t.inside c (omega arith) (omega (arith, t.long)))
+module _ (w : Watchers) (a b : List Row) (first : ℕ) where
+  pub none_stepped : first < 64 → (p : RuleSet) → WokenAmong w (Stepped first first) a b p p
+  none_stepped l p q k off = (off, λ c o m touched. absurd (omega (arith, m.0, m.1)))
 
--- the row of one cell more
-module _ (a b a' : List Row) (i k : ℕ) (from : i ≤ k) (here : k < length a) (t : Taken i k a b a') where
-  pub row_before : get_or a' k none_row ≡ get_or a k none_row
-  row_before = t.above k (omega arith) here
+  pub none_taken : first < 64 → Taken (Stepped first first) a b a
+  none_taken l = record { long = refl; taken = λ c o m. absurd (omega (arith, m.0, m.1)); others = λ c not. refl }
 
-  pub row_stays : get_or a' k none_row ≡ get_or b k none_row → Taken i (k + 1) a b a'
-  row_stays e = record {
-    long = t.long;
-    inside = λ c m o. elim (cases_eq c k) [
-      | inl is ↦ ap (λ j. get_or a' j none_row) is ∙ e ∙ ap (λ j. get_or b j none_row) (sym is)
-      | inr apart ↦ t.inside c m (omega arith)
-    ];
-    below = t.below;
-    above = λ c m o. t.above c (omega arith) o;
-  }
+  module _ (k : ℕ) (past : length b ≤ k) where
+    pub all_stepped : (p p' : RuleSet) → WokenAmong w (Stepped first k) a b p p' → WokenAmong w (λ c. c % 64 ≡ first) a b p p'
+    all_stepped p p' h q l off = let (was, u) = h q l off in (was, λ c o m touched. u c o (m, omega (arith, o)) touched)
 
-  pub row_taken : Taken i (k + 1) a b (set a' k (get_or b k none_row))
-  row_taken = record {
-    long = length-set a' k (get_or b k none_row) ∙ t.long;
-    inside = λ c m o. elim (cases_eq c k) [
-      | inl is ↦ ap (λ j. get_or (set a' k (get_or b k none_row)) j none_row) is
-          ∙ get_or-set_same a' k (get_or b k none_row) none_row (omega (arith, t.long)) ∙ ap (λ j. get_or b j none_row) (sym is)
-      | inr apart ↦ get_or-set_other a' k c (get_or b k none_row) none_row apart ∙ t.inside c m (omega arith)
-    ];
-    below = λ c m o. get_or-set_other a' k c (get_or b k none_row) none_row (λ e. omega arith) ∙ t.below c m o;
-    above = λ c m o. get_or-set_other a' k c (get_or b k none_row) none_row (λ e. omega arith) ∙ t.above c (omega arith) o;
-  }
+    pub all_taken : (a' : List Row) → length a ≡ length b → Taken (Stepped first k) a b a' → Taken (λ c. c % 64 ≡ first) a b a'
+    all_taken a' e t = record {
+      long = t.long;
+      taken = λ c o m. t.taken c o (m, omega (arith, o));
+      others = λ c not. t.others c (λ m. not m.0);
+    }
 
-pub four_same : (a b : List Row) (k : ℕ) → get_or a k none_row ≡ get_or b k none_row → get_or a (k + 1) none_row ≡ get_or b (k + 1) none_row
-    → get_or a (k + 2) none_row ≡ get_or b (k + 2) none_row → get_or a (k + 3) none_row ≡ get_or b (k + 3) none_row → Same k (k + 4) a b
-four_same a b k e f g h c m o =
-    let there : (i : ℕ) → c ≡ i → get_or a i none_row ≡ get_or b i none_row → get_or a c none_row ≡ get_or b c none_row
-    = λ i is same. subst (λ j. get_or a j none_row ≡ get_or b j none_row) (sym is) same in
-    elim (cases_eq c k) [
-      | inl is ↦ there k is e
-      | inr n0 ↦ elim (cases_eq c (k + 1)) [
-        | inl is ↦ there (k + 1) is f
-        | inr n1 ↦ elim (cases_eq c (k + 2)) [
-          | inl is ↦ there (k + 2) is g
-          | inr n2 ↦ there (k + 3) (omega (arith, n0, n1, n2)) h
-        ]
-      ]
+-- the cells whose bit is not left
+abbrev pub Done : ℕ → ℕ → Type 0
+Done left c = bit_at left (c % 64) ≡ 0
+
+zero_or_one : (n k : ℕ) → (bit_at n k ≡ 0) ⊎ (bit_at n k ≡ 1)
+zero_or_one n k = elim (cases_eq (bit_at n k) 0) [
+  | inl e ↦ inl e
+  | inr e ↦ inr (omega (arith, bit_at-lt n k))
+]
+
+module _ (w : Watchers) (a b : List Row) where
+  pub none_done : (left : ℕ) → SameOutside left a b → (p : RuleSet) → WokenAmong w (Done left) a b p p
+  none_done left same p q l off = (off, λ c o m touched. same c o m)
+
+  pub none_over : (left : ℕ) → SameOutside left a b → Taken (Done left) a b a
+  none_over left same = record { long = refl; taken = same; others = λ c not. refl }
+
+  module _ (left k left' : ℕ) (set : bit_at left k ≡ 1) (without : WithoutBit left k left') (a' : List Row) (t : Taken (Done left) a b a') where
+    -- a bit that is not left any more was not before, or is this one
+    done_now : (c : ℕ) → Done left' c → Done left c ⊎ ((c % 64 ≡ k) × (Done left c → ⊥))
+    done_now c d = elim (cases_eq (c % 64) k) [
+      | inl e ↦ inr (e, λ was. absurd (omega (arith, was, ap (bit_at left) e, set)))
+      | inr n ↦ inl (sym (without.others (c % 64) (omega arith) n) ∙ d)
     ]
+
+    done_still : (c : ℕ) → Done left c → Done left' c
+    done_still c d = elim (cases_eq (c % 64) k) [
+      | inl e ↦ ap (bit_at left') e ∙ without.gone
+      | inr n ↦ without.others (c % 64) (omega arith) n ∙ d
+    ]
+
+    pub more_done : (p p' p'' : RuleSet) → WokenAmong w (Done left) a b p p' → WokenAmong w (λ c. c % 64 ≡ k) a' b p' p''
+        → WokenAmong w (Done left') a b p p''
+    more_done p p' p'' h f q l off =
+        let (not_then, after) = f q l off in
+        let (was, before) = h q l not_then in (
+          was,
+          λ c o m touched. elim (done_now c m) [
+            | inl d ↦ before c o d touched
+            | inr d ↦ sym (t.others c d.1) ∙ after c o d.0 touched
+          ],
+        )
+
+    pub more_over : (a'' : List Row) → Taken (λ c. c % 64 ≡ k) a' b a'' → Taken (Done left') a b a''
+    more_over a'' f = record {
+      long = f.long ∙ t.long;
+      taken = λ c o m. elim (done_now c m) [
+        | inl d ↦ f.others c (λ e. absurd (omega (arith, d, ap (bit_at left) e, set))) ∙ t.taken c o d
+        | inr d ↦ f.taken c o d.0
+      ];
+      others = λ c not. f.others c (λ e. not (ap (bit_at left') e ∙ without.gone)) ∙ t.others c (λ d. not (done_still c d));
+    }
+
+  pub all_done : (left : ℕ) → left ≡ 0 → (p p' : RuleSet) → WokenAmong w (Done left) a b p p' → Woken w a b p p'
+  all_done left e p p' h q l off = let (was, u) = h q l off in
+      (was, λ c o m touched. u c o (ap (λ x. bit_at x (c % 64)) e ∙ bit_at-zero (c % 64)) touched)
+
+  pub all_over : (left : ℕ) → left ≡ 0 → (a' : List Row) → length a ≡ length b → Taken (Done left) a b a' → a' ≡ b
+  all_over left e a' same t = ext_get_or none_row a' b (t.long ∙ same)
+      (λ c l. t.taken c (omega (arith, t.long)) (ap (λ x. bit_at x (c % 64)) e ∙ bit_at-zero (c % 64)))

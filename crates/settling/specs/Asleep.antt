@@ -1,5 +1,6 @@
 -- Which rules are pending: one that is not is quiet on the rows.
-use Rattle.std.specs.Prelude.{◌≡◌, ℕ, ◌*◌, ◌<◌, ◌≤◌, true, false, List, length, slice_index_or}
+use Rattle.std.specs.Prelude.{◌≡◌, ℕ, ◌*◌, ◌%◌, ◌<◌, true, false, List, length, slice_index_or}
+use Rattle.std.specs.Int.{bit_at}
 use Rattle.bounds.specs.declared.row.Row.{Row}
 use Rattle.bounds.specs.Boards.{cells, none_row}
 use Rattle.bounds.specs.Laws.{Meaning}
@@ -13,27 +14,26 @@ use Rattle.settling.specs.Watching.{watching}
 abbrev pub Asleep : Meaning → List Row → RuleSet → Type 0
 Asleep m a p = (q : ℕ) → q < m.size → has p q ≡ false → (m.rule q).narrowed a ≡ cells a
 
--- of the cells from i to k, those that are listed with the rule have the same row
-abbrev pub Unstirred : Watchers → ℕ → ℕ → List Row → List Row → ℕ → Type 0
-Unstirred w i k a b q = (c : ℕ) → i ≤ c → c < k → has (watching w c) q ≡ true → slice_index_or a c none_row ≡ slice_index_or b c none_row
+-- of the cells of which P holds, those that are listed with the rule have the same row
+abbrev pub Unstirred : Watchers → (ℕ → Type 0) → List Row → List Row → ℕ → Type 0
+Unstirred w P a b q = (c : ℕ) → c < length b → P c → has (watching w c) q ≡ true → slice_index_or a c none_row ≡ slice_index_or b c none_row
 
--- a rule that is not pending after was not before, and no cell from i to k changed that is listed with it
-abbrev pub WokenIn : Watchers → ℕ → ℕ → List Row → List Row → RuleSet → RuleSet → Type 0
-WokenIn w i k a b p p' = (q : ℕ) → q < 64 * w.words → has p' q ≡ false → (has p q ≡ false) × Unstirred w i k a b q
+-- a rule that is not pending after was not before, and of the cells of which P holds none changed that is listed with it
+abbrev pub WokenAmong : Watchers → (ℕ → Type 0) → List Row → List Row → RuleSet → RuleSet → Type 0
+WokenAmong w P a b p p' = (q : ℕ) → q < 64 * w.words → has p' q ≡ false → (has p q ≡ false) × Unstirred w P a b q
 
 abbrev pub Woken : Watchers → List Row → List Row → RuleSet → RuleSet → Type 0
-Woken w a b p p' = WokenIn w 0 (length b) a b p p'
+Woken w a b p p' = WokenAmong w (λ _. Unit {0}) a b p p'
 
--- the cells from i to k have the same rows
-abbrev pub Same : ℕ → ℕ → List Row → List Row → Type 0
-Same i k a b = (c : ℕ) → i ≤ c → c < k → slice_index_or a c none_row ≡ slice_index_or b c none_row
-
--- the rows a took over those of b from i to k
-pub record Taken (i k : ℕ) (a b a' : List Row) : Type 0 where
+-- the rows a took over those of b in the cells of which P holds
+pub record Taken (P : ℕ → Type 0) (a b a' : List Row) : Type 0 where
   pub long : length a' ≡ length a
-  pub inside : Same i k a' b
-  pub below : Same 0 i a' a
-  pub above : Same k (length a) a' a
+  pub taken : (c : ℕ) → c < length b → P c → slice_index_or a' c none_row ≡ slice_index_or b c none_row
+  pub others : (c : ℕ) → (P c → ⊥) → slice_index_or a' c none_row ≡ slice_index_or a c none_row
+
+-- the cells whose bit, of those of a word, is not set have the same rows
+abbrev pub SameOutside : ℕ → List Row → List Row → Type 0
+SameOutside word a b = (c : ℕ) → c < length b → bit_at word (c % 64) ≡ 0 → slice_index_or a c none_row ≡ slice_index_or b c none_row
 
 -- what a rule's answer makes of the pending rules
 abbrev pub Marked : Watchers → ℕ → List Row → List Row → RuleSet → RuleSet → Change → Type 0

@@ -1,5 +1,6 @@
 -- The rules by the cells that they touch.
-use Rattle.std.specs.Prelude.{◌≡◌, ℕ, ◌*◌, ◌<◌, ◌≤◌, ◌&&◌, nat_lt, Bool, true, false, ◌≢◌, List, slice_index_or, Option, Some, None}
+use Rattle.std.specs.Prelude.{◌≡◌, ℕ, ◌*◌, ◌%◌, ◌<◌, ◌≤◌, ◌&&◌, nat_lt, Bool, true, false, ◌≢◌, List, slice_index, slice_index_or, Option, Some, None}
+use Rattle.std.specs.Int.{bit_at}
 use Rattle.bounds.specs.Laws.{Meaning, Idempotent}
 use Rattle.rule_sets.specs.declared.rule_set.RuleSet.{RuleSet}
 use Rattle.rule_sets.specs.Members.{has, no_rules}
@@ -17,10 +18,15 @@ ListedBelow m n r w = (c q : ℕ) → c < n → has (watching w c) q ≡ (nat_lt
 abbrev pub AllIdempotent : Meaning → RuleSet → Type 0
 AllIdempotent m s = (q : ℕ) → has s q ≡ true → Idempotent (m.rule q)
 
+-- for rule q, each cell of n that it touches has its bit set: that of its number modulo 64
+abbrev pub Reaches : Meaning → ℕ → ℕ → Watchers → Type 0
+Reaches m n q w = (c : ℕ) → c < n → (m.rule q).touches n c ≡ true → bit_at (slice_index w.reach q) (c % 64) ≡ 1
+
 pub record Watching (m : Meaning) (n : ℕ) (w : Watchers) : Type 0 where
   pub room : m.size ≤ 64 * w.words
   pub few : w.words ≤ 64
   pub listed : ListedBelow m n m.size w
+  pub reach : (q : ℕ) → q < m.size → Reaches m n q w
   pub known : AllIdempotent m w.idempotent
 
 -- rule r is listed with the cells that it touches, where no other is listed anew
@@ -29,6 +35,8 @@ pub record Listed (m : Meaning) (n r : ℕ) (w w' : Watchers) : Type 0 where
   pub idempotent : w'.idempotent ≡ w.idempotent
   pub rule : (c : ℕ) → c < n → has (watching w c) r ≡ false → has (watching w' c) r ≡ (m.rule r).touches n c
   pub others : (c q : ℕ) → q ≢ r → has (watching w' c) q ≡ has (watching w c) q
+  pub reach : Reaches m n r w'
+  pub other_reach : (q : ℕ) → q ≢ r → slice_index w'.reach q ≡ slice_index w.reach q
 
 -- the marks are of the cells of n that the rule touches
 abbrev pub Touches : Meaning → ℕ → ℕ → List Bool → Type 0

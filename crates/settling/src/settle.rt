@@ -1,8 +1,8 @@
 // What narrows rows until no rule narrows them.
-ghost use Rattle.std.specs.Prelude.{◌≡◌, ◌+◌, ◌*◌, ◌<◌, ◌≤◌, ◌==◌, ◌&&◌, true, length, slice_index_or};
-ghost use Rattle.bounds.specs.Boards.{sound, spread, none_row};
+ghost use Rattle.std.specs.Prelude.{◌≡◌, ◌+◌, ◌*◌, ◌%◌, ◌<◌, ◌≤◌, ◌==◌, ◌&&◌, true, length, slice_index};
+ghost use Rattle.bounds.specs.Boards.{sound, spread};
 ghost use Rattle.rule_families.specs.Narrows.{Narrows};
-ghost use Rattle.settling.specs.Asleep.{Asleep, Woken, WokenIn, Taken, Same, Marked};
+ghost use Rattle.settling.specs.Asleep.{Asleep, Woken, WokenAmong, Taken, SameOutside, Marked};
 ghost use Rattle.settling.specs.Settles.{Settles};
 ghost use Rattle.settling.specs.Watching.{Watching};
 
@@ -11,7 +11,7 @@ use crate::watchers::{MOST_CELLS, Watchers};
 use bounds::row::Row;
 use rule_families::change::Change;
 use rule_families::family::Family;
-use rule_sets::rule_set::RuleSet;
+use rule_sets::rule_set::{RuleSet, lowest_bit, without_bit};
 
 // Kept: memory holds plain rows, whose type cannot say that they are those of a board, 1,024 at most.
 pub fn settle_rows<F: Family>(family: &F, rows: &mut [Row]) -> Settled
@@ -79,7 +79,7 @@ fn apply<F: Family>(
     requires sound { sound rows.old ≡ true }
     requires few { length rows.old ≤ 1024 }
     requires listed { rule < 4096 }
-    requires words { watchers.now.words ≤ 64 }
+    requires watching { Watching (F.meaning family.now) (length rows.old) watchers.now }
     requires before { before.old ≡ rows.old }
     ensures narrows { Narrows ((F.meaning family.now).rule rule).narrowed rows.old rows.new result }
     ensures marks { Marked watchers.now rule rows.old rows.new pending.old pending.new result }
@@ -88,7 +88,7 @@ fn apply<F: Family>(
     let change = family.narrow(rule, rows);
     match change {
         Change::Quiet => pending.remove(rule),
-        Change::Narrowed => wake(watchers, before, rows, pending),
+        Change::Narrowed => wake(watchers, rule, before, rows, pending),
         Change::Void => {}
     }
     change
@@ -107,63 +107,49 @@ fn width(rows: &[Row]) -> u32
     width
 }
 
-// Makes every rule pending that touches a cell whose row changed, and takes over the row.
-// Kept: most rows stay, so that four are passed at a time; and it is not inlined, so that the scan takes no registers from it.
+// Makes every rule pending that touches a cell whose row changed, and takes over the row. Only cells that the rule touches change.
+// Kept: not inlined, so that the scan takes no registers from the walk.
 #[inline(never)]
-fn wake(watchers: &Watchers, before: &mut [Row], rows: &[Row], pending: &mut RuleSet)
+fn wake(watchers: &Watchers, rule: usize, before: &mut [Row], rows: &[Row], pending: &mut RuleSet)
+    requires listed { rule < 4096 }
     requires few { length rows.now ≤ 1024 }
     requires words { watchers.now.words ≤ 64 }
     requires before { length before.old ≡ length rows.now }
+    requires reached { SameOutside (slice_index watchers.now.reach rule) before.old rows.now }
     ensures woken { Woken watchers.now before.old rows.now pending.old pending.new }
     ensures before { before.new ≡ rows.now }
 {
-    let mut cell = 0;
-    while cell + 4 <= rows.len() {
-        if !four_stay(before, rows, cell) {
-            wake_among(watchers, cell, cell + 4, before, rows, pending);
-        }
-        cell += 4;
+    let mut left = watchers.reach[rule];
+    while let Some(bit) = lowest_bit(left) {
+        wake_every_64th(watchers, bit, before, rows, pending);
+        left = without_bit(left, bit);
     }
-    wake_among(watchers, cell, rows.len(), before, rows, pending);
 }
 
-// The same of the cells from one on to another.
-#[inline(never)]
-fn wake_among(
+// The same of every 64th cell from one on.
+fn wake_every_64th(
     watchers: &Watchers,
-    from: usize,
-    to: usize,
+    first: usize,
     before: &mut [Row],
     rows: &[Row],
     pending: &mut RuleSet,
 )
+    requires first { first < 64 }
     requires few { length rows.now ≤ 1024 }
     requires words { watchers.now.words ≤ 64 }
     requires before { length before.old ≡ length rows.now }
-    requires range { (from ≤ to) × (to ≤ length rows.now) }
-    ensures woken { WokenIn watchers.now from to before.old rows.now pending.old pending.new }
-    ensures before { Taken from to before.old rows.now before.new }
+    ensures woken { WokenAmong watchers.now (λ c. c % 64 ≡ first) before.old rows.now pending.old pending.new }
+    ensures before { Taken (λ c. c % 64 ≡ first) before.old rows.now before.new }
 {
-    for cell in from..to {
+    let mut cell = first;
+    while cell < rows.len() {
         let row = rows[cell];
         if !stays(before[cell], row) {
             before[cell] = row;
             pending.unite(&watchers.by_cell[cell], watchers.words);
         }
+        cell += 64;
     }
-}
-
-// Whether the four rows from a cell on are the same.
-fn four_stay(before: &[Row], rows: &[Row], cell: usize) -> bool
-    requires few { length rows.now ≤ 1024 }
-    requires before { length before.now ≡ length rows.now }
-    requires cell { cell + 4 ≤ length rows.now }
-    ensures { result ≡ true → Same cell (cell + 4) before.now rows.now }
-{
-    stays(before[cell], rows[cell])
-        && stays(before[cell + 1], rows[cell + 1])
-        && stays(before[cell + 2], rows[cell + 2])
-        && stays(before[cell + 3], rows[cell + 3])
 }
 
 // Whether both bounds are the same.

@@ -2,17 +2,20 @@
 ghost use Rattle.std.specs.Prelude.{◌≡◌, ◌<◌, ◌≤◌, length};
 ghost use Rattle.settling.specs.Watching.{Watching, Listed, Touches, AllIdempotent, Rests};
 
-use rule_families::family::Family;
-use rule_sets::rule_set::RuleSet;
+use rule_families::family::{Family, MOST_RULES};
+use rule_sets::rule_set::{RuleSet, with_bit};
 
 // A board has no more cells.
 pub const MOST_CELLS: usize = 1024;
 
-// For each cell the rules that touch it, how many words of a set hold all rules, and those that are known to be idempotent.
 #[derive(Drop)]
 pub struct Watchers {
+    // For each cell the rules that touch it, and how many words of a set hold all rules.
     pub by_cell: [RuleSet; MOST_CELLS],
     pub words: usize,
+    // For each rule the cells that it touches, by their numbers modulo 64.
+    pub reach: [u64; MOST_RULES],
+    // The rules that are known to be idempotent.
     pub idempotent: RuleSet,
 }
 
@@ -24,6 +27,7 @@ impl Watchers {
         let mut watchers = Watchers {
             by_cell: [RuleSet::none(); MOST_CELLS],
             words: family.size().div_ceil(64),
+            reach: [0; MOST_RULES],
             idempotent: idempotent_rules(family),
         };
         for rule in 0..family.size() {
@@ -49,11 +53,14 @@ impl Watchers {
         let mut room = [false; MOST_CELLS];
         let marks = &mut room[..cells];
         mark_alone(family, rule, cells, marks);
+        let mut reach = 0;
         for (cell, touched) in marks.iter().enumerate() {
             if *touched {
                 self.by_cell[cell].insert(rule);
+                reach = with_bit(reach, cell % 64);
             }
         }
+        self.reach[rule] = reach;
     }
 }
 

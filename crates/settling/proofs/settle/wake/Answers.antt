@@ -1,8 +1,8 @@
-use Rattle.std.proofs.Common.{arith}
-use Rattle.settling.proofs.Wakes.{taken_on, all_taken}
+use Rattle.settling.proofs.Wakes.{none_done, none_over, all_over}
 use Rattle.settling.proofs.settle.wake.Goals as goal
 
+pub loop-bit-init : goal.loop-bit-init
+loop-bit-init c = (none_done c.args.watchers.now _ _ _ c.requires.reached _, none_over c.args.watchers.now _ _ _ c.requires.reached)
+
 pub returns-clause-before : goal.returns-clause-before
-returns-clause-before c =
-    let (on, woken, taken) = c.loop-cell.invariant in
-    all_taken _ _ _ c.requires.before (taken_on c.args.watchers.now _ _ _ _ _ on (omega arith) taken _ c.wake_among-2.ensures.before)
+returns-clause-before c = all_over c.args.watchers.now _ _ _ c.in_default.ensures _ c.requires.before c.loop-bit.invariant.1

@@ -1,4 +1,5 @@
-use Rattle.std.proofs.Common.{◌≡◌, ℕ, ◌<◌, ◌≤◌, false, ◌≢◌}
+use Rattle.std.proofs.Common.{◌≡◌, ℕ, ◌%◌, ◌<◌, ◌≤◌, true, false, ◌≢◌}
+use Rattle.std.specs.Int.{bit_at}
 use Rattle.rule_sets.specs.Members.{has}
 use Rattle.settling.specs.Watching.{watching}
 use Rattle.settling.proofs.watchers.Watchers.list.Given as goal
@@ -10,3 +11,5 @@ invariant-loop-cell g l =
     × ((c : ℕ) → c < l.cell → has (watching l.initial.self c) l.rule ≡ false → has (watching l.self c) l.rule ≡ (m.rule l.rule).touches l.cells c)
     × ((c : ℕ) → l.cell ≤ c → watching l.self c ≡ watching l.initial.self c)
     × ((c q : ℕ) → q ≢ l.rule → has (watching l.self c) q ≡ has (watching l.initial.self c) q)
+    × (l.self.reach ≡ l.initial.self.reach)
+    × ((c : ℕ) → c < l.cell → (m.rule l.rule).touches l.cells c ≡ true → bit_at l.reach (c % 64) ≡ 1)
