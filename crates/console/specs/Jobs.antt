@@ -10,7 +10,8 @@ use Rattle.plates.specs.declared.plate.Plate.{Plate}
 use Rattle.plates.specs.Plates.{plates}
 use Rattle.triples.specs.declared.triple.Triple.{Triple}
 use Rattle.triples.specs.Triples.{triples}
-use Rattle.totals.specs.declared.total.Total.{Total}
+use Rattle.totals.specs.declared.family.TotalList.{TotalList}
+use Rattle.totals.specs.Lists as totals
 use Rattle.linear.specs.Totals.{totals}
 use Rattle.job.specs.Reading.{Found}
 
@@ -20,10 +21,10 @@ job_meaning f g = beside (plates f g.plates) (beside (triples f g.triples) (tota
 
 -- the families of a job
 abbrev pub JobFamilies : Type 0
-JobFamilies = Beside (Rules (Listed Plate)) (Beside (Rules (Listed Triple)) (Rules (Listed Total)))
+JobFamilies = Beside (Rules (Listed Plate)) (Beside (Rules (Listed Triple)) (Rules TotalList))
 
 -- they are over the file, at the places of its records
 pub record JobRules (f : List ℕ) (g : Found) (r : JobFamilies) : Type 0 where
   pub plates : Over f g.plates r.first
   pub triples : Over f g.triples r.second.first
-  pub totals : Over f g.totals r.second.second
+  pub totals : totals.Over f g.totals r.second.second

@@ -6,7 +6,7 @@ ghost use Rattle.console.specs.Jobs.{JobRules};
 use job::job::Job;
 use plates::family::Plates;
 use rule_families::beside::Beside;
-use totals::family::Totals;
+use totals::family::{TotalList, Totals};
 use triples::family::Triples;
 
 pub type Families<'f> = Beside<Plates<'f>, Beside<Triples<'f>, Totals<'f>>>;
@@ -19,7 +19,7 @@ pub fn rules_of<'j, 'f>(job: &'j Job<'f>) -> Families<'j>
         first: Plates::at(file, job.plate_places()),
         second: Beside {
             first: Triples::at(file, job.triple_places()),
-            second: Totals::at(file, job.total_places()),
+            second: TotalList::at(file, job.total_places()),
         },
     }
 }

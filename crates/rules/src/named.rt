@@ -94,7 +94,7 @@ pub fn narrow<R: Named>(rule: &R, rows: &mut [Row]) -> Change
 
 // The same in room for N rows.
 // Kept: the rows stand at the front of room on the stack, since settling takes no heap.
-#[tactic(auto, using(bounds::proofs::Lifted::own_sound, bounds::proofs::Lifted::lifted_quiet, std::proofs::lemmas::List::take_at))]
+#[tactic(auto, using(bounds::proofs::Lifted::own_sound, bounds::proofs::Lifted::lifted_quiet))]
 fn narrow_in<R: Named, const N: usize>(rule: &R, arity: usize, rows: &mut [Row]) -> Change
     requires arity { arity ≡ length (R.scoped rule.now).scope }
     requires room { arity ≤ N }
@@ -103,13 +103,14 @@ fn narrow_in<R: Named, const N: usize>(rule: &R, arity: usize, rows: &mut [Row])
     ensures { Narrows (on_board (R.scoped rule.now)).narrowed rows.old rows.new result }
 {
     let mut found = [Row::default(); N];
-    if !gathered(rule, rows, &mut found[..arity]) {
+    let mut work = [Row::default(); N];
+    let before = &mut found[..arity];
+    let own = &mut work[..arity];
+    if !gathered(rule, rows, before, own) {
         return Change::Quiet;
     }
-    let mut work = found;
-    let own = &mut work[..arity];
     match rule.narrow_own(own) {
-        Change::Narrowed => written_back(rule, rows, &found[..arity], own),
+        Change::Narrowed => written_back(rule, rows, before, own),
         unchanged => unchanged,
     }
 }
@@ -145,18 +146,21 @@ fn stand<R: Scope>(rule: &R, rows: &[Row], own: &[Row]) -> bool
     true
 }
 
-// Copies the rows of the named cells, if the board has all of them.
+// Copies the rows of the named cells twice, if the board has all of them.
 // Kept: the rule, the board's rows and the rule's own are lent apart, as each of the calls writes another of them.
 #[tactic(auto, using(bounds::proofs::Scopes::at_gather))]
-fn gathered<R: Scope>(rule: &R, rows: &[Row], own: &mut [Row]) -> bool
+fn gathered<R: Scope>(rule: &R, rows: &[Row], before: &mut [Row], own: &mut [Row]) -> bool
+    requires before { length before.old ≡ length (R.scope rule.now) }
     requires own { length own.old ≡ length (R.scope rule.now) }
     ensures whole { result ≡ fits (R.scope rule.now) (length rows.now) }
+    ensures before { result ≡ true → before.new ≡ gather none_row (R.scope rule.now) rows.now }
     ensures rows { result ≡ true → own.new ≡ gather none_row (R.scope rule.now) rows.now }
 {
     for (i, row) in own.iter_mut().enumerate() {
         let Some(found) = rows.get(rule.cell(i)) else {
             return false;
         };
+        before[i] = *found;
         *row = *found;
     }
     true

@@ -55,6 +55,8 @@ pub struct Rules<S>(pub S);
 
 impl<S: Numbered> Rules<S> {
     // The rule with this number; None past the size, or where there is none.
+    // Kept: inlined, since a rule that comes back in memory is read there again at each of its cells.
+    #[inline(always)]
     fn find(&self, number: usize) -> Option<S::Rule>
         ensures { on_board (or_none S.Rule.scoped result) ≡ (numbered (S.count self.now.0) (S.at self.now.0)).rule number }
     {

@@ -4,4 +4,3 @@ pub mod Scope
 pub mod Exactness
 pub mod Stated
 pub mod Limits
-pub mod Written

@@ -1,6 +1,7 @@
 -- What is known of new rows g and of the rows a, place by place.
-use Rattle.std.proofs.Common.{◌≡◌, ℕ, ◌+◌, ◌<◌, ◌≤◌, false, ◌≢◌, List, length, get_or, ap, inl, inr, arith, below_more}
+use Rattle.std.proofs.Common.{◌≡◌, ℕ, ◌+◌, ◌<◌, ◌≤◌, false, ◌≢◌, List, length, get_or, set, sym, ap, ◌∙◌, inl, inr, arith, below_more}
 use Rattle.std.proofs.lemmas.Bool.{cases_Bool}
+use Rattle.std.proofs.lemmas.List.{get_or-set_same, get_or-set_other}
 use Rattle.bounds.specs.declared.row.Row.{Row}
 use Rattle.bounds.specs.Boards.{sound, none_row}
 use Rattle.bounds.proofs.Places.{low_at, high_at, at_sound, sound_at, same_rows}
@@ -38,3 +39,9 @@ module _ (g a : List Row) (e : length g ≡ length a) where
 
   pub far_void : (i : ℕ) → i < length a → high_at g i < low_at g i → sound g ≡ false
   far_void i l h = elim (cases_Bool (sound g)) [ inl s ↦ absurd (omega (arith, sound_at g s i (omega arith))) | inr s ↦ s ]
+
+-- the first rows of new are those of g
+pub stored_more : (g new : List Row) (i : ℕ) (r : Row) → i < length new → get_or g i none_row ≡ r
+    → ((k : ℕ) → k < i → get_or new k none_row ≡ get_or g k none_row) → (k : ℕ) → k < i + 1 → get_or (set new i r) k none_row ≡ get_or g k none_row
+stored_more g new i r l e h = below_more _ i (λ k o. let other : k ≢ i = omega arith in get_or-set_other new i k r none_row other ∙ h k o)
+    (get_or-set_same new i r none_row l ∙ sym e)

@@ -1,3 +1,4 @@
 pub mod Read
 pub mod Narrowing
 pub mod Worked
+pub mod Lists

@@ -1,4 +1,4 @@
-use crate::family::Totals;
+use crate::family::{TotalList, Totals};
 use crate::worked::both_limits_bind;
 use bounds::row::Row;
 use rule_families::change::Change;
@@ -6,7 +6,7 @@ use rule_families::family::Family;
 
 // The total at the start of a file, alone.
 fn at_start(file: &[u8]) -> Totals<'_> {
-    Totals::at(file, &[0])
+    TotalList::at(file, &[0])
 }
 
 #[test]

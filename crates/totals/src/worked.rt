@@ -5,7 +5,7 @@ ghost use Rattle.rule_families.specs.Narrows.{Narrows};
 ghost use Rattle.rule_families.specs.declared.change.Change.TheVariants.{Narrowed, Void};
 ghost use Rattle.totals.specs.Worked.{narrowed_by, CeilingIsExact, FloorIsExact, BothLimitsBind, both_one};
 
-use crate::family::Totals;
+use crate::family::TotalList;
 use bounds::row::Row;
 use rule_families::change::Change;
 use rule_families::family::Family;
@@ -24,7 +24,7 @@ fn applied(file: &[u8], rows: &mut [Row]) -> Change
     requires { sound rows.old ≡ true }
     ensures { Narrows (narrowed_by file.now) rows.old rows.new result }
 {
-    Totals::at(file, &[0]).narrow(0, rows)
+    TotalList::at(file, &[0]).narrow(0, rows)
 }
 
 // Twice each of two counts adds up to 3: three narrowings find that it cannot be, where an exact one finds it at once.

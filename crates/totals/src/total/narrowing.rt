@@ -3,6 +3,7 @@ ghost use Rattle.std.specs.Prelude.{◌≡◌, ◌^◌, ◌<◌, ◌≤◌, true
 ghost use Rattle.bounds.specs.Boards.{sound};
 ghost use Rattle.totals.specs.Read.{record_of, weights};
 ghost use Rattle.totals.specs.Narrowing.{limits_of, new_rows, Opened, Outcome};
+ghost use Rattle.rule_families.specs.declared.change.Change.TheVariants.{Narrowed};
 
 use super::Total;
 use bounds::row::Row;
@@ -43,32 +44,26 @@ impl Total<'_> {
         limits
     }
 
-    // What the new bounds make of the rows, which are not written.
-    pub(super) fn outcome(&self, limits: Open, own: &[Row]) -> Change
+    // Writes the rows with their new bounds, as far as each holds a count, and tells what they make of the rows.
+    // Kept: all bounds are made of those before, so that the rows stay as they are until every new one is known.
+    pub(super) fn bound(&self, limits: Open, own: &[Row], new: &mut [Row]) -> Change
         requires opened { Opened self.now own.now limits.sum }
         requires sound { sound own.now ≡ true }
-        ensures { Outcome (new_rows self.now own.now) own.now result }
+        requires room { length new.old ≡ length own.now }
+        ensures outcome { Outcome (new_rows self.now own.now) own.now result }
+        ensures rows { result ≡ Narrowed → new.new ≡ new_rows self.now own.now }
     {
         let mut change = Change::Quiet;
         for (i, row) in own.iter().enumerate() {
-            let new = limits.bound(self.weight(i), *row);
-            if new != *row {
-                if !new.is_sound() {
+            let bounded = limits.bound(self.weight(i), *row);
+            if bounded != *row {
+                if !bounded.is_sound() {
                     return Change::Void;
                 }
                 change = Change::Narrowed;
             }
+            new[i] = bounded;
         }
         change
-    }
-
-    #[tactic(auto, using(crate::proofs::Written::bounding))]
-    pub(super) fn write(self, limits: Open, own: &mut [Row])
-        requires { Opened self own.old limits.sum }
-        ensures { own.new ≡ new_rows self.entry own.old }
-    {
-        for (i, row) in own.iter_mut().enumerate() {
-            *row = limits.bound(self.weight(i), *row);
-        }
     }
 }
