@@ -3,14 +3,14 @@ use Rattle.std.proofs.Common.{◌≡◌, ℕ, ◌+◌, ◌*◌, ◌%◌, ◌<◌
 use Rattle.std.specs.Int.{bit_at}
 use Rattle.std.proofs.lemmas.Bool.{cases_eq, cases_lt, true≢false}
 use Rattle.std.proofs.lemmas.List.{ext_get_or, get_or-set_same, get_or-set_other}
-use Rattle.std.proofs.lemmas.Nat.Bits.{bit_at-lt, bit_at-zero}
+use Rattle.std.proofs.lemmas.Nat.Bits.{bit_at-zero}
 use Rattle.bounds.specs.declared.row.Row.{Row}
 use Rattle.bounds.specs.Boards.{none_row}
 use Rattle.rule_sets.specs.declared.rule_set.RuleSet.{RuleSet}
 use Rattle.rule_sets.specs.Members.{has, United, WithoutBit}
 use Rattle.settling.specs.declared.watchers.Watchers.{Watchers}
 use Rattle.settling.specs.Watching.{watching}
-use Rattle.settling.specs.Asleep.{Unstirred, WokenAmong, Woken, Taken, SameOutside}
+use Rattle.settling.specs.Asleep.{Unstirred, WokenAmong, Woken, Taken, SameOutside, Within64}
 use Rattle.settling.proofs.Sleeps.{both}
 
 -- P holds of cell k and of those of which it held before, and of no more
@@ -66,96 +66,106 @@ module _ (w : Watchers) (a b : List Row) (P P' : ℕ → Type 0) (k : ℕ) (more
           get_or-set_other a' k c row none_row apart ∙ t.others c (λ m. not (more.kept c m));
     }
 
--- the cells from one on, up to k and then k too, of every 64th
-abbrev pub Stepped : ℕ → ℕ → ℕ → Type 0
-Stepped first k c = (c % 64 ≡ first) × (c < k)
+  pub passed : length b ≤ k → (p p' : RuleSet) → WokenAmong w P a b p p' → WokenAmong w P' a b p p'
+  passed past p p' h q l off = let (was, u) = h q l off in
+      (was, λ c o m touched. elim (more.one c m) [ inl m ↦ u c o m touched | inr e ↦ absurd (omega (arith, past)) ])
 
-pub step : (first k : ℕ) → k % 64 ≡ first → OneMore (Stepped first k) (Stepped first (k + 64)) k
-step first k e = record {
-  one = λ c m. elim (cases_lt c k) [
-    | inl l ↦ inl (m.0, l)
-    | inr g ↦ inr (omega (arith, m.0, m.1, e))
-  ];
-  kept = λ c m. (m.0, omega (arith, m.1));
-  here = (e, omega arith);
-  apart = λ m. omega (arith, m.1);
-}
+  pub row_passed : length b ≤ k → (a' : List Row) → Taken P a b a' → Taken P' a b a'
+  row_passed past a' t = record {
+    long = t.long;
+    taken = λ c l m. elim (more.one c m) [ inl m ↦ t.taken c l m | inr e ↦ absurd (omega (arith, past)) ];
+    others = λ c not. t.others c (λ m. not (more.kept c m));
+  }
 
-module _ (w : Watchers) (a b : List Row) (first : ℕ) where
-  pub none_stepped : first < 64 → (p : RuleSet) → WokenAmong w (Stepped first first) a b p p
-  none_stepped l p q k off = (off, λ c o m touched. absurd (omega (arith, m.0, m.1)))
+-- those of 64 cells whose bit is not left
+abbrev pub Done : ℕ → ℕ → ℕ → Type 0
+Done first left c = Within64 first c × (bit_at left (c % 64) ≡ 0)
 
-  pub none_taken : first < 64 → Taken (Stepped first first) a b a
-  none_taken l = record { long = refl; taken = λ c o m. absurd (omega (arith, m.0, m.1)); others = λ c not. refl }
+module _ (first left k left' : ℕ) (whole : first % 64 ≡ 0) (few : k < 64) (set : bit_at left k ≡ 1) (without : WithoutBit left k left') where
+  pub step : OneMore (Done first left) (Done first left') (first + k)
+  step = record {
+    one = λ c m. elim (cases_eq (c % 64) k) [
+      | inl e ↦ inr (omega (arith, m.0.0, m.0.1, whole))
+      | inr n ↦ inl (m.0, sym (without.others (c % 64) (omega arith) n) ∙ m.1)
+    ];
+    kept = λ c m. (
+      m.0,
+      elim (cases_eq (c % 64) k) [
+        | inl e ↦ ap (bit_at left') e ∙ without.gone
+        | inr n ↦ without.others (c % 64) (omega arith) n ∙ m.1
+      ],
+    );
+    here = ((omega arith, omega arith), ap (bit_at left') bit_here ∙ without.gone);
+    apart = λ m. absurd (omega (arith, m.1, ap (bit_at left) bit_here, set));
+  }
+    where
+      bit_here : (first + k) % 64 ≡ k
+      bit_here = omega (arith, whole, few)
 
-  module _ (k : ℕ) (past : length b ≤ k) where
-    pub all_stepped : (p p' : RuleSet) → WokenAmong w (Stepped first k) a b p p' → WokenAmong w (λ c. c % 64 ≡ first) a b p p'
-    all_stepped p p' h q l off = let (was, u) = h q l off in (was, λ c o m touched. u c o (m, omega (arith, o)) touched)
+module _ (w : Watchers) (a b : List Row) (first reach : ℕ) (same : SameOutside reach a b) where
+  pub none_done : (p : RuleSet) → WokenAmong w (Done first reach) a b p p
+  none_done p q l off = (off, λ c o m touched. same c o m.1)
 
-    pub all_taken : (a' : List Row) → length a ≡ length b → Taken (Stepped first k) a b a' → Taken (λ c. c % 64 ≡ first) a b a'
-    all_taken a' e t = record {
-      long = t.long;
-      taken = λ c o m. t.taken c o (m, omega (arith, o));
-      others = λ c not. t.others c (λ m. not m.0);
-    }
+  pub none_over : Taken (Done first reach) a b a
+  none_over = record { long = refl; taken = λ c o m. same c o m.1; others = λ c not. refl }
 
--- the cells whose bit is not left
-abbrev pub Done : ℕ → ℕ → Type 0
-Done left c = bit_at left (c % 64) ≡ 0
+module _ (w : Watchers) (a b : List Row) (first left : ℕ) (none : left ≡ 0) where
+  all_of : (c : ℕ) → Within64 first c → Done first left c
+  all_of c m = (m, ap (λ x. bit_at x (c % 64)) none ∙ bit_at-zero (c % 64))
 
-zero_or_one : (n k : ℕ) → (bit_at n k ≡ 0) ⊎ (bit_at n k ≡ 1)
-zero_or_one n k = elim (cases_eq (bit_at n k) 0) [
-  | inl e ↦ inl e
-  | inr e ↦ inr (omega (arith, bit_at-lt n k))
-]
+  pub all_done : (p p' : RuleSet) → WokenAmong w (Done first left) a b p p' → WokenAmong w (Within64 first) a b p p'
+  all_done p p' h q l off = let (was, u) = h q l off in (was, λ c o m touched. u c o (all_of c m) touched)
+
+  pub all_over : (a' : List Row) → Taken (Done first left) a b a' → Taken (Within64 first) a b a'
+  all_over a' t = record {
+    long = t.long;
+    taken = λ c o m. t.taken c o (all_of c m);
+    others = λ c not. t.others c (λ m. not m.0);
+  }
+
+-- the cells below one
+abbrev pub Below : ℕ → ℕ → Type 0
+Below first c = c < first
 
 module _ (w : Watchers) (a b : List Row) where
-  pub none_done : (left : ℕ) → SameOutside left a b → (p : RuleSet) → WokenAmong w (Done left) a b p p
-  none_done left same p q l off = (off, λ c o m touched. same c o m)
+  pub none_below : (p : RuleSet) → WokenAmong w (Below 0) a b p p
+  none_below p q l off = (off, λ c o m touched. absurd (omega arith))
 
-  pub none_over : (left : ℕ) → SameOutside left a b → Taken (Done left) a b a
-  none_over left same = record { long = refl; taken = same; others = λ c not. refl }
+  pub none_taken : Taken (Below 0) a b a
+  none_taken = record { long = refl; taken = λ c o m. absurd (omega arith); others = λ c not. refl }
 
-  module _ (left k left' : ℕ) (set : bit_at left k ≡ 1) (without : WithoutBit left k left') (a' : List Row) (t : Taken (Done left) a b a') where
-    -- a bit that is not left any more was not before, or is this one
-    done_now : (c : ℕ) → Done left' c → Done left c ⊎ ((c % 64 ≡ k) × (Done left c → ⊥))
-    done_now c d = elim (cases_eq (c % 64) k) [
-      | inl e ↦ inr (e, λ was. absurd (omega (arith, was, ap (bit_at left) e, set)))
-      | inr n ↦ inl (sym (without.others (c % 64) (omega arith) n) ∙ d)
-    ]
-
-    done_still : (c : ℕ) → Done left c → Done left' c
-    done_still c d = elim (cases_eq (c % 64) k) [
-      | inl e ↦ ap (bit_at left') e ∙ without.gone
-      | inr n ↦ without.others (c % 64) (omega arith) n ∙ d
-    ]
-
-    pub more_done : (p p' p'' : RuleSet) → WokenAmong w (Done left) a b p p' → WokenAmong w (λ c. c % 64 ≡ k) a' b p' p''
-        → WokenAmong w (Done left') a b p p''
-    more_done p p' p'' h f q l off =
+  module _ (first : ℕ) (a' : List Row) (t : Taken (Below first) a b a') where
+    pub more_below : (p p' p'' : RuleSet) → WokenAmong w (Below first) a b p p' → WokenAmong w (Within64 first) a' b p' p''
+        → WokenAmong w (Below (first + 64)) a b p p''
+    more_below p p' p'' h f q l off =
         let (not_then, after) = f q l off in
         let (was, before) = h q l not_then in (
           was,
-          λ c o m touched. elim (done_now c m) [
+          λ c o m touched. elim (cases_lt c first) [
             | inl d ↦ before c o d touched
-            | inr d ↦ sym (t.others c d.1) ∙ after c o d.0 touched
+            | inr g ↦ sym (t.others c (λ d. absurd (omega (arith, g)))) ∙ after c o (g, m) touched
           ],
         )
 
-    pub more_over : (a'' : List Row) → Taken (λ c. c % 64 ≡ k) a' b a'' → Taken (Done left') a b a''
-    more_over a'' f = record {
+    pub more_taken : (a'' : List Row) → Taken (Within64 first) a' b a'' → Taken (Below (first + 64)) a b a''
+    more_taken a'' f = record {
       long = f.long ∙ t.long;
-      taken = λ c o m. elim (done_now c m) [
-        | inl d ↦ f.others c (λ e. absurd (omega (arith, d, ap (bit_at left) e, set))) ∙ t.taken c o d
-        | inr d ↦ f.taken c o d.0
+      taken = λ c o m. elim (cases_lt c first) [
+        | inl d ↦ f.others c (λ e. absurd (omega (arith, e.0))) ∙ t.taken c o d
+        | inr g ↦ f.taken c o (g, m)
       ];
-      others = λ c not. f.others c (λ e. not (ap (bit_at left') e ∙ without.gone)) ∙ t.others c (λ d. not (done_still c d));
+      others = λ c not. f.others c (λ e. not e.1) ∙ t.others c (λ d. not (omega (arith, d)));
     }
 
-  pub all_done : (left : ℕ) → left ≡ 0 → (p p' : RuleSet) → WokenAmong w (Done left) a b p p' → Woken w a b p p'
-  all_done left e p p' h q l off = let (was, u) = h q l off in
-      (was, λ c o m touched. u c o (ap (λ x. bit_at x (c % 64)) e ∙ bit_at-zero (c % 64)) touched)
+    pub same_still : (reach : ℕ) → SameOutside reach a b → SameOutside reach a' b
+    same_still reach same c o zero = elim (cases_lt c first) [
+      | inl d ↦ t.taken c o d
+      | inr g ↦ t.others c (λ d. absurd (omega (arith, g))) ∙ same c o zero
+    ]
 
-  pub all_over : (left : ℕ) → left ≡ 0 → (a' : List Row) → length a ≡ length b → Taken (Done left) a b a' → a' ≡ b
-  all_over left e a' same t = ext_get_or none_row a' b (t.long ∙ same)
-      (λ c l. t.taken c (omega (arith, t.long)) (ap (λ x. bit_at x (c % 64)) e ∙ bit_at-zero (c % 64)))
+  module _ (first : ℕ) (past : length b ≤ first) where
+    pub woken_all : (p p' : RuleSet) → WokenAmong w (Below first) a b p p' → Woken w a b p p'
+    woken_all p p' h q l off = let (was, u) = h q l off in (was, λ c o m touched. u c o (omega (arith, o)) touched)
+
+    pub taken_all : (a' : List Row) → length a ≡ length b → Taken (Below first) a b a' → a' ≡ b
+    taken_all a' same t = ext_get_or none_row a' b (t.long ∙ same) (λ c l. t.taken c (omega (arith, t.long)) (omega (arith, t.long)))

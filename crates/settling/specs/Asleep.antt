@@ -1,5 +1,5 @@
 -- Which rules are pending: one that is not is quiet on the rows.
-use Rattle.std.specs.Prelude.{◌≡◌, ℕ, ◌*◌, ◌%◌, ◌<◌, true, false, List, length, slice_index_or}
+use Rattle.std.specs.Prelude.{◌≡◌, ℕ, ◌+◌, ◌*◌, ◌%◌, ◌<◌, ◌≤◌, true, false, List, length, slice_index_or}
 use Rattle.std.specs.Int.{bit_at}
 use Rattle.bounds.specs.declared.row.Row.{Row}
 use Rattle.bounds.specs.Boards.{cells, none_row}
@@ -30,6 +30,10 @@ pub record Taken (P : ℕ → Type 0) (a b a' : List Row) : Type 0 where
   pub long : length a' ≡ length a
   pub taken : (c : ℕ) → c < length b → P c → slice_index_or a' c none_row ≡ slice_index_or b c none_row
   pub others : (c : ℕ) → (P c → ⊥) → slice_index_or a' c none_row ≡ slice_index_or a c none_row
+
+-- the 64 cells from one on
+abbrev pub Within64 : ℕ → ℕ → Type 0
+Within64 first c = (first ≤ c) × (c < first + 64)
 
 -- the cells whose bit, of those of a word, is not set have the same rows
 abbrev pub SameOutside : ℕ → List Row → List Row → Type 0

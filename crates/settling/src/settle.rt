@@ -2,7 +2,7 @@
 ghost use Rattle.std.specs.Prelude.{◌≡◌, ◌+◌, ◌*◌, ◌%◌, ◌<◌, ◌≤◌, ◌==◌, ◌&&◌, true, length, slice_index};
 ghost use Rattle.bounds.specs.Boards.{sound, spread};
 ghost use Rattle.rule_families.specs.Narrows.{Narrows};
-ghost use Rattle.settling.specs.Asleep.{Asleep, Woken, WokenAmong, Taken, SameOutside, Marked};
+ghost use Rattle.settling.specs.Asleep.{Asleep, Woken, WokenAmong, Taken, SameOutside, Within64, Marked};
 ghost use Rattle.settling.specs.Settles.{Settles};
 ghost use Rattle.settling.specs.Watching.{Watching};
 
@@ -119,36 +119,38 @@ fn wake(watchers: &Watchers, rule: usize, before: &mut [Row], rows: &[Row], pend
     ensures woken { Woken watchers.now before.old rows.now pending.old pending.new }
     ensures before { before.new ≡ rows.now }
 {
-    let mut left = watchers.reach[rule];
-    while let Some(bit) = lowest_bit(left) {
-        wake_every_64th(watchers, bit, before, rows, pending);
-        left = without_bit(left, bit);
+    let mut first = 0;
+    while first < rows.len() {
+        wake_64(watchers, watchers.reach[rule], first, before, rows, pending);
+        first += 64;
     }
 }
 
-// The same of every 64th cell from one on.
-fn wake_every_64th(
+// The same of the 64 cells from one on.
+fn wake_64(
     watchers: &Watchers,
+    reach: u64,
     first: usize,
     before: &mut [Row],
     rows: &[Row],
     pending: &mut RuleSet,
 )
-    requires first { first < 64 }
+    requires first { (first % 64 ≡ 0) × (first < length rows.now) }
     requires few { length rows.now ≤ 1024 }
     requires words { watchers.now.words ≤ 64 }
     requires before { length before.old ≡ length rows.now }
-    ensures woken { WokenAmong watchers.now (λ c. c % 64 ≡ first) before.old rows.now pending.old pending.new }
-    ensures before { Taken (λ c. c % 64 ≡ first) before.old rows.now before.new }
+    requires reached { SameOutside reach before.old rows.now }
+    ensures woken { WokenAmong watchers.now (Within64 first) before.old rows.now pending.old pending.new }
+    ensures before { Taken (Within64 first) before.old rows.now before.new }
 {
-    let mut cell = first;
-    while cell < rows.len() {
-        let row = rows[cell];
-        if !stays(before[cell], row) {
-            before[cell] = row;
+    let mut left = reach;
+    while let Some(bit) = lowest_bit(left) {
+        let cell = first + bit;
+        if cell < rows.len() && !stays(before[cell], rows[cell]) {
+            before[cell] = rows[cell];
             pending.unite(&watchers.by_cell[cell], watchers.words);
         }
-        cell += 64;
+        left = without_bit(left, bit);
     }
 }
 

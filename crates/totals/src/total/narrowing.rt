@@ -28,6 +28,8 @@ impl Total<'_> {
         }
     }
 
+    // Kept: inlined, as is what bounds the rows, since each total that is applied takes both.
+    #[inline(always)]
     #[tactic(auto, using(crate::proofs::Limits::limiting))]
     pub(super) fn limits(&self, own: &[Row]) -> Limits
         requires many { length own.now ≡ length (record_of self.now).terms }
@@ -46,6 +48,7 @@ impl Total<'_> {
 
     // Writes the rows with their new bounds, as far as each holds a count, and tells what they make of the rows.
     // Kept: all bounds are made of those before, so that the rows stay as they are until every new one is known.
+    #[inline(always)]
     pub(super) fn bound(&self, limits: Open, own: &[Row], new: &mut [Row]) -> Change
         requires opened { Opened self.now own.now limits.sum }
         requires sound { sound own.now ≡ true }

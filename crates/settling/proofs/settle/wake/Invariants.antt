@@ -1,10 +1,12 @@
+use Rattle.std.proofs.Common.{◌≡◌, ◌%◌, ◌-◌, length}
 use Rattle.settling.specs.Asleep.{WokenAmong, Taken}
-use Rattle.settling.proofs.Wakes.{Done}
+use Rattle.settling.proofs.Wakes.{Below}
 use Rattle.settling.proofs.settle.wake.Given as goal
 
-abbrev pub invariant-loop-bit : goal.invariant-loop-bit
-invariant-loop-bit l =
-    WokenAmong l.watchers (Done l.left) l.initial.before l.rows l.initial.pending l.pending × Taken (Done l.left) l.initial.before l.rows l.before
+abbrev pub invariant-loop-first : goal.invariant-loop-first
+invariant-loop-first l =
+    (l.first % 64 ≡ 0) × WokenAmong l.watchers (Below l.first) l.initial.before l.rows l.initial.pending l.pending
+    × Taken (Below l.first) l.initial.before l.rows l.before
 
-abbrev pub decreases-loop-bit : goal.decreases-loop-bit
-decreases-loop-bit l = l.left
+abbrev pub decreases-loop-first : goal.decreases-loop-first
+decreases-loop-first l = length l.rows - l.first
