@@ -1,6 +1,6 @@
 -- Calls of a script, one more at a time.
-use Rattle.std.proofs.Common.{◌≡◌, ℕ, ◌+◌, ◌-◌, ◌*◌, ◌<◌, Bool, true, false, cond, List, [], ◌∷◌, ◌++◌, length, get_or, set, take, drop, vec_items, sym, refl, ap, ◌∙◌, subst, ap₂, arith}
-use Rattle.std.proofs.lemmas.List.{drop-drop, drop-set-lt, length-append, take_more, take_more_set}
+use Rattle.std.proofs.Common.{◌≡◌, ℕ, ◌+◌, ◌-◌, ◌*◌, ◌<◌, Bool, true, false, cond, List, [], ◌∷◌, ◌++◌, length, get_or, set, min, take, drop, vec_items, sym, refl, ap, ◌∙◌, subst, ap₂, arith}
+use Rattle.std.proofs.lemmas.List.{drop-drop, drop-set-lt, length-append, length-set, length-take, take_all, take_more, take_more_set}
 use Rattle.std.proofs.Math.Seq.{take-append_seam, drop-append-add}
 use Rattle.std.proofs.lemmas.Bool.{true≢false}
 use Rattle.bounds.specs.declared.row.Row.{Row}
@@ -12,7 +12,7 @@ use Rattle.run.specs.declared.call.Call.{Call}
 use Rattle.run.specs.declared.answer.Answer.{Answer}
 use Rattle.run.specs.Runs.{here, then, joined}
 use Rattle.run.specs.Results.{used_by}
-use Rattle.run.specs.Scripts.{call_of, Answers, plan_of, plans, searches, some_searches, Stays, Made, Logs, none, one_more, Ran}
+use Rattle.run.specs.Scripts.{call_of, Answers, plan_of, plans, searches, some_searches, Stays, Made, Logs, none, one_more, Ran, Reached, RanTo, Runs, none_call, RunsOn}
 use Rattle.run.proofs.Makes.{stays_same}
 use Rattle.run.proofs.Kept.{kept_throughout}
 
@@ -55,14 +55,9 @@ used_so u (settled n) a w = ap (used_by u) w ∙ omega arith
 used_so u (emptied n) a w = ap (used_by u) w ∙ omega arith
 used_so u (none_found pr sr) a w = ap (used_by u) w ∙ omega arith
 
--- The first i of the calls were made, with answers at the front of now, where was stood, and plans that take the plan memory up to the place u.
-pub record RanTo (m : Meaning) (b c : Board) (p q : List ℕ) (s t : List Row) (xs : List Call) (was now : List Answer) (i u : ℕ) : Type 0 where
-  pub ran : Ran m b c p q s t (take i xs) (take i now)
-  pub past : drop i now ≡ drop i was
-  pub used : u ≡ length (plans ran.events)
-
 module _ (m : Meaning) (b : Board) (p : List ℕ) (s : List Row) (xs : List Call) (was : List Answer) where
   pub ran_none : FiveLaws m → RanTo m b b p p s s xs was was 0 0
+  unfolding RanTo
   ran_none laws = record {
     ran = record {
       events = [];
@@ -75,11 +70,21 @@ module _ (m : Meaning) (b : Board) (p : List ℕ) (s : List Row) (xs : List Call
     };
     past = refl;
     used = refl;
+    rooms = (refl, refl, refl);
   }
 
   module _ (c d : Board) (u : ℕ) (q r : List ℕ) (t w : List Row) (i : ℕ) (x : Call) (now : List Answer) (a : Answer)
-      (so : RanTo m b c p q s t xs was now i u) (made : Made m c d u q r t w (get_or xs i x) a)
-      (lt : i < length xs) (room : i < length now) (len : length q ≡ length p) (same : length t ≡ length s) where
+      (so : Reached m b c p q s t xs was now i u) (made : Made m c d u q r t w (get_or xs i x) a)
+      (lt : i < length xs) (place : i < length was) (left : length r ≡ length q) (rest : length w ≡ length t) where
+    len : length q ≡ length p
+    len = so.rooms.0
+
+    same : length t ≡ length s
+    same = so.rooms.1
+
+    room : i < length now
+    room = omega (arith, place, so.rooms.2)
+
     logged : Logs (length p) (length s) (take (i + 1) xs) (take (i + 1) (set now i a)) (made.event ∷ so.ran.events)
     logged =
         subst (λ (ys : List Answer). Logs (length p) (length s) (take (i + 1) xs) ys (made.event ∷ so.ran.events)) (sym (take_more_set now i a room))
@@ -89,7 +94,7 @@ module _ (m : Meaning) (b : Board) (p : List ℕ) (s : List Row) (xs : List Call
         (subst (λ (n : ℕ). Answers n made.event a) so.used made.answers)))
 
     -- the next call of the script, whose answer is written at its place
-    pub ran_next : (v : ℕ) → v ≡ used_by u a → RanTo m b d p r s w xs was (set now i a) (i + 1) v
+    pub ran_next : (v : ℕ) → v ≡ used_by u a → Reached m b d p r s w xs was (set now i a) (i + 1) v
     ran_next v is =
         let ran = so.ran in
         let k = plans ran.events in
@@ -108,4 +113,25 @@ module _ (m : Meaning) (b : Board) (p : List ℕ) (s : List Row) (xs : List Call
           past = drop-set-lt (i + 1) now i a (omega arith) ∙ sym (drop-drop 1 i now) ∙ ap (drop 1) so.past ∙ drop-drop 1 i was;
           used = is ∙ used_so u made.event a made.answers ∙ ap (λ (n : ℕ). n + length (plan_of made.event)) so.used
               ∙ sym (length-append k (plan_of made.event));
+          rooms = (left ∙ len, rest ∙ same, length-set now i a ∙ so.rooms.2);
         }
+
+-- whatever ran up to here ran on to the call
+pub ran_on : (m : Meaning) (b c : Board) (u v : ℕ) (p q : List ℕ) (s t : List Row) (x : Call) (a : Answer)
+    → Made m b c u p q s t x a → v ≡ used_by u a → length q ≡ length p → length t ≡ length s → RunsOn m b c p q s t x a u v
+unfolding RanTo
+ran_on m b c u v p q s t x a made is left rest start plan scratch xs was now i lt next place ran =
+    ran_next m start plan scratch xs was b c u p q s t i none_call now a ran
+    (subst (λ (y : Call). Made m b c u p q s t y a) (sym next) made) lt place left rest v is
+
+pub taken : (n : ℕ) (xs : List Call) → length (take n xs) ≡ min n (length xs)
+taken n xs = length-take n xs
+
+pub all_ran : (m : Meaning) (b c : Board) (p q : List ℕ) (s t : List Row) (xs : List Call) (was now : List Answer) (n u : ℕ)
+    → RanTo m b c p q s t (take n xs) was now n u → n ≡ min (length xs) (length was) → Runs m b c p q s t xs was now n
+unfolding RanTo
+all_ran m b c p q s t xs was now n u so is = record {
+  calls = is;
+  ran = subst (λ (ys : List Call). Ran m b c p q s t ys (take n now)) (take_all n (take n xs) (omega (arith, length-take n xs))) so.ran;
+  past = so.past;
+}

@@ -1,5 +1,5 @@
 -- A script's calls, with their answers, as events.
-use Rattle.std.specs.Prelude.{◌≡◌, ℕ, ◌+◌, ◌-◌, ◌*◌, min, Bool, true, false, cond, List, [], ◌∷◌, ◌++◌, length, take, drop, vec_items}
+use Rattle.std.specs.Prelude.{◌≡◌, ℕ, ◌+◌, ◌-◌, ◌*◌, ◌<◌, min, Bool, true, false, cond, List, [], ◌∷◌, ◌++◌, length, slice_index_or, slice_set, take, drop, vec_items}
 use Rattle.bounds.specs.declared.row.Row.{Row}
 use Rattle.bounds.specs.Boards.{sound}
 use Rattle.bounds.specs.Laws.{Meaning, FiveLaws}
@@ -116,8 +116,32 @@ pub record Ran (m : Meaning) (b c : Board) (p q : List ℕ) (s t : List Row) (xs
   -- the promise is kept after each of them, whatever run led to the board b
   pub keeps : (job : List Row) → sound job ≡ true → (es : List Event) (earlier : Run m job es (state b)) → KeptThroughout (joined earlier leads)
 
--- The first n of the calls were made, as many as there are places for answers, which went from was to now: each call is
--- answered at its place, and the places past them stay.
+-- The first n of the calls were made and answered at their places, where answers went from was to now; their plans take
+-- plan memory up to the place u.
+pub record Reached (m : Meaning) (b c : Board) (p q : List ℕ) (s t : List Row) (xs : List Call) (was now : List Answer) (n u : ℕ) : Type 0 where
+  pub ran : Ran m b c p q s t (take n xs) (take n now)
+  pub past : drop n now ≡ drop n was
+  pub used : u ≡ length (plans ran.events)
+  pub rooms : (length q ≡ length p) × (length t ≡ length s) × (length now ≡ length was)
+
+-- the same, as a word that search takes whole
+unfoldable pub RanTo : Meaning → Board → Board → List ℕ → List ℕ → List Row → List Row → List Call → List Answer → List Answer → ℕ → ℕ → Type 0
+RanTo = Reached
+
+-- where a script has no call
+abbrev pub none_call : Call
+none_call = call.Tighten 0 0 0
+
+-- The call x was made and answered by a, and plan memory, used up to the place u, is used up to v: whatever ran up to here of a
+-- script whose next call is x ran on to it.
+abbrev pub RunsOn : Meaning → Board → Board → List ℕ → List ℕ → List Row → List Row → Call → Answer → ℕ → ℕ → Type 0
+RunsOn m b c p q s t x a u v =
+    (start : Board) (plan : List ℕ) (scratch : List Row) (xs : List Call) (was now : List Answer) (n : ℕ)
+    → n < length xs → slice_index_or xs n none_call ≡ x → n < length was
+    → RanTo m start b plan p scratch s xs was now n u → RanTo m start c plan q scratch t xs was (slice_set now n a) (n + 1) v
+
+-- The first n of the calls were made, as many as there are places for answers: each is answered at its place, and the places past
+-- them stay.
 pub record Runs (m : Meaning) (b c : Board) (p q : List ℕ) (s t : List Row) (xs : List Call) (was now : List Answer) (n : ℕ) : Type 0 where
   pub calls : n ≡ min (length xs) (length was)
   pub ran : Ran m b c p q s t (take n xs) (take n now)

@@ -1,4 +1,4 @@
-use Rattle.run.proofs.Scripted.{RanTo}
+use Rattle.run.specs.Scripts.{RanTo}
 use Rattle.run.proofs.script.run.Given as goal
 
 abbrev pub invariant-loop-place : goal.invariant-loop-place
