@@ -33,7 +33,7 @@ pub fn plan_job(file: &[u8], room: Room) -> Result<Report, Refused>
         mut plan,
         mut scratch,
     } = room;
-    // Kept: no From takes the memory that comes back to what is told, and of a map_err a proof knows less.
+    // Kept: no From makes a NoRoom what is told.
     let mut board = match board_of(&job, rows, saved) {
         Ok(board) => board,
         Err(no_room) => return Err(no_room.refused),
