@@ -57,7 +57,7 @@ fn answer_all(rt: &HostRuntime, job: &Job<'_>) -> anyhow::Result<()> {
     let lines = BufReader::new(heap, rt.stdin())?.lines(heap);
     for (number, line) in (1u64..).zip(lines) {
         let line = line?;
-        match Line::read(heap, line.as_str())? {
+        match Line::read(line.as_str()) {
             Some(Line::Call(call)) => {
                 let mut answers = [Answer::NoPlan];
                 run(
