@@ -3,4 +3,3 @@
 pub mod families;
 pub mod report;
 pub mod room;
-pub mod unplanned;

@@ -1,30 +1,29 @@
 // What is printed of a job that is planned: its settled bounds and its first plan.
-ghost use Rattle.std.specs.Prelude.{◌≡◌, [], ◌∷◌, IfOk};
-ghost use Rattle.board.specs.Held.{state};
-ghost use Rattle.console.specs.Reports.{Told, Left};
+ghost use Rattle.std.specs.Prelude.{◌≡◌, [], ◌∷◌};
+ghost use Rattle.console.specs.Reports.{Told};
 
 use crate::families::rules_of;
 use crate::room::Room;
-use crate::unplanned::Unplanned;
 use board::board::Board;
 use boards::board_of;
-use bounds::row::Row;
 use job::job::Job;
+use records::refused::Refused;
 use run::answer::Answer;
 use run::call::Call;
 use run::script::run;
-use std::alloc::{AllocError, Global};
+use run::shown::Shown;
 use std::fmt;
 
-// The answers to a settle and a seek, and the bounds that were left; a void board has none.
-#[derive(PartialEq, Eq, Debug, Drop)]
+// The answers to a settle and a seek, the board that they left, and the plan memory.
+#[derive(Drop)]
 pub struct Report {
-    pub answers: Vec<Answer>,
-    pub bounds: Option<Vec<Row>>,
+    pub answers: [Answer; 2],
+    pub board: Board,
+    pub plan: Vec<u16>,
 }
 
 // Reads the job, settles its board and seeks the first plan, in the memory that is lent.
-pub fn plan_job(heap: Global, file: &[u8], room: Room) -> Result<Report, Unplanned>
+pub fn plan_job(file: &[u8], room: Room) -> Result<Report, Refused>
     ensures { Told file.now room result }
 {
     let job = Job::read(file)?;
@@ -34,17 +33,26 @@ pub fn plan_job(heap: Global, file: &[u8], room: Room) -> Result<Report, Unplann
         mut plan,
         mut scratch,
     } = room;
-    let mut board = board_of(&job, rows, saved)?;
-    let answers = run(
-        heap,
+    // Kept: no From makes a NoRoom what is told.
+    let mut board = match board_of(&job, rows, saved) {
+        Ok(board) => board,
+        Err(no_room) => return Err(no_room.refused),
+    };
+    // A place for each call, which its answer takes.
+    let mut answers = [Answer::NoPlan; 2];
+    run(
         &mut board,
         &rules_of(&job),
         &planning(),
+        &mut answers,
         &mut plan,
         &mut scratch,
-    )?;
-    let bounds = bounds_left(heap, &board)?;
-    Ok(Report { answers, bounds })
+    );
+    Ok(Report {
+        answers,
+        board,
+        plan,
+    })
 }
 
 // What plans a job: a settle tells the bounds, and a seek the plan.
@@ -54,19 +62,9 @@ fn planning() -> [Call; 2]
     [Call::Settle, Call::Seek]
 }
 
-// The rows of the cells, if the board is not void.
-fn bounds_left(heap: Global, board: &Board) -> Result<Option<Vec<Row>>, AllocError>
-    ensures { IfOk result (λ bounds. Left (state board.now) bounds) }
-{
-    if board.is_void() {
-        return Ok(None);
-    }
-    Vec::from_slice(heap, board.rows()).map(Some)
-}
-
 impl fmt::Display for Report {
     fn fmt<W: fmt::Write>(&self, f: &mut fmt::Formatter<W>) -> fmt::Result {
-        for answer in &self.answers {
+        for answer in self.answers {
             self.write_answer(f, answer)?;
         }
         Ok(())
@@ -78,7 +76,7 @@ impl Report {
     fn write_answer<W: fmt::Write>(
         &self,
         f: &mut fmt::Formatter<W>,
-        answer: &Answer,
+        answer: Answer,
     ) -> fmt::Result {
         match answer {
             Answer::Settled(narrowings) => {
@@ -89,16 +87,17 @@ impl Report {
                 writeln!(f, "narrowings {narrowings}")?;
                 writeln!(f, "void")
             }
-            Answer::NoPlan if self.bounds.is_none() => Ok(()),
-            _ => writeln!(f, "{answer}"),
+            Answer::NoPlan if self.board.is_void() => Ok(()),
+            _ => {
+                let plans = &self.plan;
+                let shown = Shown { answer, plans };
+                writeln!(f, "{shown}")
+            }
         }
     }
 
     fn write_bounds<W: fmt::Write>(&self, f: &mut fmt::Formatter<W>) -> fmt::Result {
-        let Some(bounds) = &self.bounds else {
-            return Ok(());
-        };
-        for (cell, row) in bounds.iter().enumerate() {
+        for (cell, row) in self.board.rows().iter().enumerate() {
             let low = row.low;
             let high = row.high;
             writeln!(f, "{cell} {low} {high}")?;

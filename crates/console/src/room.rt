@@ -1,9 +1,8 @@
 // The memory that a program lends for a job.
-ghost use Rattle.std.specs.Prelude.{◌≡◌, ◌+◌, ◌*◌, IfOk, vec_len};
+ghost use Rattle.std.specs.Prelude.{◌≡◌, ◌+◌, ◌*◌};
 
 use board::unfit::MOST_TRIALS;
 use bounds::row::Row;
-use std::alloc::{AllocError, Global};
 
 // The most cells of a job that the planner has room for.
 pub const MOST_PLANNED: u16 = 100;
@@ -16,18 +15,29 @@ pub struct Room {
     pub scratch: Vec<Row>,
 }
 
-impl Room {
+// How long each of its parts has to be.
+#[derive(Clone, Copy, PartialEq, Eq, Debug)]
+pub struct Sizes {
+    pub rows: usize,
+    pub saved: usize,
+    pub plan: usize,
+    pub scratch: usize,
+}
+
+impl Sizes {
     // For boards of up to so many cells, of which there are 1,024 at most.
-    pub fn for_cells(heap: Global, cells: u16) -> Result<Room, AllocError>
-        ensures { IfOk result (λ m. (vec_len m.rows ≡ cells) × (vec_len m.saved ≡ 16 * cells) × (vec_len m.plan ≡ cells) × (vec_len m.scratch ≡ (cells + 1) * cells)) }
+    pub fn for_cells(cells: u16) -> Sizes
+        ensures rows { result.rows ≡ cells }
+        ensures saved { result.saved ≡ 16 * cells }
+        ensures plan { result.plan ≡ cells }
+        ensures scratch { result.scratch ≡ (cells + 1) * cells }
     {
-        let none = Row::default();
         let cells = usize::from(cells);
-        Ok(Room {
-            rows: vec![in heap; none; cells]?,
-            saved: vec![in heap; none; MOST_TRIALS * cells]?,
-            plan: vec![in heap; 0; cells]?,
-            scratch: vec![in heap; none; (cells + 1) * cells]?,
-        })
+        Sizes {
+            rows: cells,
+            saved: MOST_TRIALS * cells,
+            plan: cells,
+            scratch: (cells + 1) * cells,
+        }
     }
 }

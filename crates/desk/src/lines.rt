@@ -1,6 +1,5 @@
 // The lines of a script.
 use run::call::Call;
-use std::alloc::{AllocError, Global};
 
 #[derive(Clone, Copy, PartialEq, Eq, Debug)]
 pub enum Line {
@@ -9,15 +8,22 @@ pub enum Line {
 }
 
 impl Line {
-    ghost use Rattle.std.specs.Prelude.{IfOk};
     ghost use Rattle.desk.specs.Lines.{Words, AreWords, Says};
 
     // What a line says: a call, or the word help; any other line says nothing.
-    pub fn read(heap: Global, line: &str) -> Result<Option<Line>, AllocError>
-        ensures { IfOk result (λ said. (words : Words) × AreWords line.now words × Says words said) }
+    pub fn read(line: &str) -> Option<Line>
+        ensures { (words : Words) × AreWords line.now words × Says words result }
     {
-        let words: Vec<&str> = line.split_whitespace().collect(heap)?;
-        Ok(Line::said(&words))
+        // No form has more than four words, so of more than that five are kept.
+        let mut words = [""; 5];
+        let mut count = 0;
+        for word in line.split_whitespace() {
+            if count < 5 {
+                words[count] = word;
+                count += 1;
+            }
+        }
+        Line::said(&words[..count])
     }
 
     fn said(words: &[&str]) -> Option<Line>

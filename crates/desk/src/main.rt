@@ -5,12 +5,15 @@ mod lines;
 
 use anyhow::anyhow;
 use boards::board_of;
+use bounds::row::Row;
 use console::families::rules_of;
-use console::room::Room;
+use console::room::Sizes;
 use job::job::Job;
 use lines::Line;
 use records::refused::Refused;
+use run::answer::Answer;
 use run::script::run;
+use run::shown::Shown;
 use std::io::{BufRead, BufReader};
 use std::{env, fs};
 
@@ -40,12 +43,12 @@ fn refuse(rt: &HostRuntime, refused: &Refused) -> anyhow::Result<()> {
 
 fn answer_all(rt: &HostRuntime, job: &Job<'_>) -> anyhow::Result<()> {
     let heap = rt.alloc();
-    let Room {
-        rows,
-        saved,
-        mut plan,
-        mut scratch,
-    } = Room::for_cells(heap, MOST_CELLS)?;
+    let sizes = Sizes::for_cells(MOST_CELLS);
+    let none = Row::default();
+    let rows = vec![in heap; none; sizes.rows]?;
+    let saved = vec![in heap; none; sizes.saved]?;
+    let mut plans = vec![in heap; 0; sizes.plan]?;
+    let mut scratch = vec![in heap; none; sizes.scratch]?;
     let mut board = match board_of(job, rows, saved) {
         Ok(board) => board,
         Err(no_room) => return refuse(rt, &no_room.refused),
@@ -54,11 +57,22 @@ fn answer_all(rt: &HostRuntime, job: &Job<'_>) -> anyhow::Result<()> {
     let lines = BufReader::new(heap, rt.stdin())?.lines(heap);
     for (number, line) in (1u64..).zip(lines) {
         let line = line?;
-        match Line::read(heap, line.as_str())? {
+        match Line::read(line.as_str()) {
             Some(Line::Call(call)) => {
-                for answer in &run(heap, &mut board, &rules, &[call], &mut plan, &mut scratch)? {
-                    rt.println(answer)?;
-                }
+                let mut answers = [Answer::NoPlan];
+                run(
+                    &mut board,
+                    &rules,
+                    &[call],
+                    &mut answers,
+                    &mut plans,
+                    &mut scratch,
+                );
+                let [answer] = answers;
+                rt.println(&Shown {
+                    answer,
+                    plans: &plans,
+                })?;
             }
             Some(Line::Help) => rt.print(HELP)?,
             None => println!(rt; "not a call: line {number}: {line}")?,

@@ -1,16 +1,18 @@
 -- Calls of a script, one more at a time.
-use Rattle.std.proofs.Common.{◌≡◌, ℕ, ◌+◌, ◌*◌, ◌<◌, Bool, true, false, cond, List, [], ◌∷◌, ◌++◌, length, slice_get, get_or, take, drop, Some, vec_items, sym, refl, ap, ◌∙◌, subst, ap₂}
-use Rattle.std.proofs.lemmas.List.{take_more}
-use Rattle.std.proofs.lemmas.Option.{get_or_from_slice_get, slice_get_within}
+use Rattle.std.proofs.Common.{◌≡◌, ℕ, ◌+◌, ◌-◌, ◌*◌, ◌<◌, Bool, true, false, cond, List, [], ◌∷◌, ◌++◌, length, get_or, set, min, take, drop, vec_items, sym, refl, ap, ◌∙◌, subst, ap₂, arith}
+use Rattle.std.proofs.lemmas.List.{drop-drop, drop-set-lt, length-append, length-set, length-take, take_all, take_more, take_more_set}
+use Rattle.std.proofs.Math.Seq.{take-append_seam, drop-append-add}
 use Rattle.std.proofs.lemmas.Bool.{true≢false}
 use Rattle.bounds.specs.declared.row.Row.{Row}
 use Rattle.bounds.specs.Laws.{Meaning, FiveLaws}
 use Rattle.board.specs.declared.board.Board.{Board}
+use Rattle.board.specs.Calls.{Event, refused, tightened, opened, kept, dropped, asked, settled, emptied, found, none_found}
 use Rattle.board.specs.Held.{state}
 use Rattle.run.specs.declared.call.Call.{Call}
 use Rattle.run.specs.declared.answer.Answer.{Answer}
 use Rattle.run.specs.Runs.{here, then, joined}
-use Rattle.run.specs.Scripts.{call_of, plan_after, searches, some_searches, Stays, Made, none, one_more, Ran}
+use Rattle.run.specs.Results.{used_by}
+use Rattle.run.specs.Scripts.{call_of, Answers, plan_of, plans, searches, some_searches, Stays, Made, Logs, none, one_more, Ran, Reached, RanTo, Runs, none_call, RunsOn}
 use Rattle.run.proofs.Makes.{stays_same}
 use Rattle.run.proofs.Kept.{kept_throughout}
 
@@ -31,48 +33,105 @@ stays_on b c d x y =
       past_trials = subst (λ (n : ℕ). drop (16 * n) (vec_items d.saved) ≡ drop (16 * n) (vec_items c.saved)) e y.past_trials ∙ x.past_trials;
     }
 
-module _ (m : Meaning) (laws : FiveLaws m) (b : Board) (p : List ℕ) (s : List Row) where
-  pub ran_none : Ran m b b p p s s [] []
-  ran_none = record {
-    events = [];
-    logs = none;
-    leads = here;
-    stays = stays_same b;
-    plan = refl;
-    scratch = λ _. refl;
-    keeps = λ job ok es earlier. kept_throughout m laws job ok (joined earlier here);
+-- over memory that begins with the plans k, what is written past them stands between them and the rest
+written_on : (k w p : List ℕ) (q r : List ℕ) → q ≡ k ++ drop (length k) p → r ≡ take (length k) q ++ w ++ drop (length k + length w) q
+    → r ≡ (k ++ w) ++ drop (length (k ++ w)) p
+written_on k w p q r e h =
+    let d = drop (length k) p in
+    h ∙ ap (λ (z : List ℕ). take (length k) z ++ w ++ drop (length k + length w) z) e
+    ∙ ap₂ (λ (y z : List ℕ). y ++ w ++ z) (take-append_seam k d)
+    (drop-append-add k d (length w) ∙ drop-drop (length w) (length k) p ∙ ap (λ (i : ℕ). drop i p) (sym (length-append k w)))
+
+-- plan memory is used up to where the answer says
+used_so : (u : ℕ) (e : Event) (a : Answer) → Answers u e a → used_by u a ≡ u + length (plan_of e)
+used_so u (found pr sr p) a w = ap (used_by u) w
+used_so u (refused c n) a w = ap (used_by u) w.2 ∙ omega arith
+used_so u (tightened c l h) a w = ap (used_by u) w ∙ omega arith
+used_so u (opened k) a w = ap (used_by u) w ∙ omega arith
+used_so u (kept k) a w = ap (used_by u) w ∙ omega arith
+used_so u (dropped k) a w = ap (used_by u) w ∙ omega arith
+used_so u (asked c l h) a w = ap (used_by u) w ∙ omega arith
+used_so u (settled n) a w = ap (used_by u) w ∙ omega arith
+used_so u (emptied n) a w = ap (used_by u) w ∙ omega arith
+used_so u (none_found pr sr) a w = ap (used_by u) w ∙ omega arith
+
+module _ (m : Meaning) (b : Board) (p : List ℕ) (s : List Row) (xs : List Call) (was : List Answer) where
+  pub ran_none : FiveLaws m → RanTo m b b p p s s xs was was 0 0
+  unfolding RanTo
+  ran_none laws = record {
+    ran = record {
+      events = [];
+      logs = none;
+      leads = here;
+      stays = stays_same b;
+      plan = refl;
+      scratch = λ _. refl;
+      keeps = λ job ok es earlier. kept_throughout m laws job ok earlier;
+    };
+    past = refl;
+    used = refl;
+    rooms = (refl, refl, refl);
   }
 
-  pub ran_more : (c d : Board) (q r : List ℕ) (t u : List Row) (xs : List Call) (answers : List Answer) (x : Call) (a : Answer)
-      → length q ≡ length p → length t ≡ length s → Ran m b c p q s t xs answers → Made m c d q r t u x a
-      → Ran m b d p r s u (xs ++ x ∷ []) (answers ++ a ∷ [])
-  ran_more c d q r t u xs answers x a len same ran made =
-      let leads = then ran.leads made.event (state d) made.does in
-      record {
-        events = made.event ∷ ran.events;
-        logs = one_more ran.logs x a made.event (made.asks ∙ ap₂ (λ (n k : ℕ). call_of n k x) len same) made.answers;
-        leads = leads;
-        stays = stays_on b c d ran.stays made.stays;
-        plan = made.plan ∙ ap (plan_after made.event) ran.plan;
-        scratch = λ h. let k = neither (searches made.event) (some_searches ran.events) h in made.scratch k.0 ∙ ran.scratch k.1;
-        keeps = λ job ok es earlier. kept_throughout m laws job ok (joined earlier leads);
-      }
+  module _ (c d : Board) (u : ℕ) (q r : List ℕ) (t w : List Row) (i : ℕ) (x : Call) (now : List Answer) (a : Answer)
+      (so : Reached m b c p q s t xs was now i u) (made : Made m c d u q r t w (get_or xs i x) a)
+      (lt : i < length xs) (place : i < length was) (left : length r ≡ length q) (rest : length w ≡ length t) where
+    len : length q ≡ length p
+    len = so.rooms.0
 
-  -- the next call of the script, whose answer is pushed
-  pub ran_next : (c d : Board) (q r : List ℕ) (t u : List Row) (script : List Call) (i : ℕ) (x : Call) (answers pushed : List Answer) (a : Answer)
-      → i < length script → length q ≡ length p → length t ≡ length s → pushed ≡ answers ++ a ∷ []
-      → Ran m b c p q s t (take i script) answers → Made m c d q r t u (get_or script i x) a → Ran m b d p r s u (take (i + 1) script) pushed
-  ran_next c d q r t u script i x answers pushed a lt len same is ran made =
-      subst (λ (ys : List Answer). Ran m b d p r s u (take (i + 1) script) ys) (sym is)
-      (subst (λ (xs : List Call). Ran m b d p r s u xs (answers ++ a ∷ [])) (sym (take_more script i x lt))
-      (ran_more c d q r t u (take i script) answers (get_or script i x) a len same ran made))
+    same : length t ≡ length s
+    same = so.rooms.1
 
--- the same of whatever ran up to here
-pub ran_on : (m : Meaning) → FiveLaws m → (b c : Board) (p q : List ℕ) (s t : List Row) (x : Call) (a : Answer) (noted more : List Answer)
-    → more ≡ noted ++ a ∷ [] → Made m b c p q s t x a
-    → (start : Board) (plan : List ℕ) (scratch : List Row) (script : List Call) (i : ℕ) → slice_get script i ≡ Some x
-    → length p ≡ length plan → length s ≡ length scratch → Ran m start b plan p scratch s (take i script) noted
-    → Ran m start c plan q scratch t (take (i + 1) script) more
-ran_on m laws b c p q s t x a noted more items made start plan scratch script i is lp ls ran =
-    ran_next m laws start plan scratch b c p q s t script i x noted more a (slice_get_within script i x is) lp ls items ran
-    (subst (λ (y : Call). Made m b c p q s t y a) (sym (get_or_from_slice_get script i x x is)) made)
+    room : i < length now
+    room = omega (arith, place, so.rooms.2)
+
+    logged : Logs (length p) (length s) (take (i + 1) xs) (take (i + 1) (set now i a)) (made.event ∷ so.ran.events)
+    logged =
+        subst (λ (ys : List Answer). Logs (length p) (length s) (take (i + 1) xs) ys (made.event ∷ so.ran.events)) (sym (take_more_set now i a room))
+        (subst (λ (zs : List Call). Logs (length p) (length s) zs (take i now ++ a ∷ []) (made.event ∷ so.ran.events)) (sym (take_more xs i x lt))
+        (one_more so.ran.logs (get_or xs i x) a made.event
+        (made.asks ∙ ap₂ (λ (n j : ℕ). call_of n j (get_or xs i x)) (ap₂ ◌-◌ len so.used) same)
+        (subst (λ (n : ℕ). Answers n made.event a) so.used made.answers)))
+
+    -- the next call of the script, whose answer is written at its place
+    pub ran_next : (v : ℕ) → v ≡ used_by u a → Reached m b d p r s w xs was (set now i a) (i + 1) v
+    ran_next v is =
+        let ran = so.ran in
+        let k = plans ran.events in
+        let leads = then ran.leads made.event (state d) made.does in
+        record {
+          ran = record {
+            events = made.event ∷ ran.events;
+            logs = logged;
+            leads = leads;
+            stays = stays_on b c d ran.stays made.stays;
+            plan = written_on k (plan_of made.event) p q r ran.plan
+                (subst (λ (n : ℕ). r ≡ take n q ++ plan_of made.event ++ drop (n + length (plan_of made.event)) q) so.used made.plan);
+            scratch = λ h. let e = neither (searches made.event) (some_searches ran.events) h in made.scratch e.0 ∙ ran.scratch e.1;
+            keeps = λ job ok es earlier. (ran.keeps job ok es earlier, made.keeps job ok _ (joined earlier ran.leads));
+          };
+          past = drop-set-lt (i + 1) now i a (omega arith) ∙ sym (drop-drop 1 i now) ∙ ap (drop 1) so.past ∙ drop-drop 1 i was;
+          used = is ∙ used_so u made.event a made.answers ∙ ap (λ (n : ℕ). n + length (plan_of made.event)) so.used
+              ∙ sym (length-append k (plan_of made.event));
+          rooms = (left ∙ len, rest ∙ same, length-set now i a ∙ so.rooms.2);
+        }
+
+-- whatever ran up to here ran on to the call
+pub ran_on : (m : Meaning) (b c : Board) (u v : ℕ) (p q : List ℕ) (s t : List Row) (x : Call) (a : Answer)
+    → Made m b c u p q s t x a → v ≡ used_by u a → length q ≡ length p → length t ≡ length s → RunsOn m b c p q s t x a u v
+unfolding RanTo
+ran_on m b c u v p q s t x a made is left rest start plan scratch xs was now i lt next place ran =
+    ran_next m start plan scratch xs was b c u p q s t i none_call now a ran
+    (subst (λ (y : Call). Made m b c u p q s t y a) (sym next) made) lt place left rest v is
+
+pub taken : (n : ℕ) (xs : List Call) → length (take n xs) ≡ min n (length xs)
+taken n xs = length-take n xs
+
+pub all_ran : (m : Meaning) (b c : Board) (p q : List ℕ) (s t : List Row) (xs : List Call) (was now : List Answer) (n u : ℕ)
+    → RanTo m b c p q s t (take n xs) was now n u → n ≡ min (length xs) (length was) → Runs m b c p q s t xs was now n
+unfolding RanTo
+all_ran m b c p q s t xs was now n u so is = record {
+  calls = is;
+  ran = subst (λ (ys : List Call). Ran m b c p q s t ys (take n now)) (take_all n (take n xs) (omega (arith, length-take n xs))) so.ran;
+  past = so.past;
+}

@@ -23,3 +23,14 @@ of_ask c (Err e) = answer.Refused e
 abbrev pub of_settle : Settled → Answer
 of_settle (settle.Settled n) = answer.Settled n
 of_settle (settle.Void n) = answer.Void n
+
+-- how much of the plan memory is used after the answer, where so much was used before
+abbrev pub used_by : ℕ → Answer → ℕ
+used_by u (answer.Plan from to) = to
+used_by u answer.Granted = u
+used_by u (answer.Slip k) = u
+used_by u (answer.Cell c l h) = u
+used_by u (answer.Settled n) = u
+used_by u (answer.Void n) = u
+used_by u answer.NoPlan = u
+used_by u (answer.Refused e) = u

@@ -1,14 +1,13 @@
 // What a call on a board answered.
 // Kept: a case for each line that a script is answered; with Option or Settled inside, each line would be matched twice.
 ghost use Rattle.std.specs.Prelude.{◌≡◌};
-ghost use Rattle.run.specs.Results.{of_grant, of_open, of_settle};
+ghost use Rattle.run.specs.Results.{of_grant, of_open, of_settle, used_by};
 
 use board::board::Slip;
 use board::refusal::Refusal;
 use settling::settled::Settled;
-use std::fmt;
 
-#[derive(PartialEq, Eq, Debug, Drop)]
+#[derive(Clone, Copy, PartialEq, Eq, Debug)]
 pub enum Answer {
     // Tightened, kept or dropped.
     Granted,
@@ -18,8 +17,8 @@ pub enum Answer {
     // Settled, or voided, after so many narrowings.
     Settled(u32),
     Void(u32),
-    // The first plan, and that there is none.
-    Plan(Vec<u16>),
+    // The first plan, whose counts stand in the plan memory from one place up to another, and that there is none.
+    Plan { from: usize, to: usize },
     NoPlan,
     Refused(Refusal),
 }
@@ -58,27 +57,14 @@ impl From<Settled> for Answer {
     }
 }
 
-// One line, with no newline.
-impl fmt::Display for Answer {
-    fn fmt<W: fmt::Write>(&self, f: &mut fmt::Formatter<W>) -> fmt::Result {
+impl Answer {
+    // How much of the plan memory plans take after the answer, where they took so much before.
+    pub fn used(self, before: usize) -> usize
+        ensures { result ≡ used_by before self }
+    {
         match self {
-            Answer::Granted => write!(f, "granted"),
-            Answer::Slip(serial) => write!(f, "slip {serial}"),
-            Answer::Cell { cell, low, high } => write!(f, "{cell} {low} {high}"),
-            Answer::Settled(applied) => write!(f, "settled {applied}"),
-            Answer::Void(applied) => write!(f, "void {applied}"),
-            Answer::Plan(counts) => {
-                write!(f, "plan")?;
-                for count in counts {
-                    write!(f, " {count}")?;
-                }
-                Ok(())
-            }
-            Answer::NoPlan => write!(f, "no plan"),
-            Answer::Refused(why) => {
-                let number = why.number();
-                write!(f, "refused {number}")
-            }
+            Answer::Plan { to, .. } => to,
+            _ => before,
         }
     }
 }

@@ -2,6 +2,6 @@
 
 pub mod answer;
 pub mod call;
-pub mod halted;
 pub mod script;
+pub mod shown;
 pub mod step;

@@ -4,54 +4,49 @@ ghost use Rattle.run.specs.Scripts.{Runs, RunsOn};
 
 use crate::answer::Answer;
 use crate::call::Call;
-use crate::halted::Halted;
 use crate::step::step;
 use board::board::Board;
 use bounds::row::Row;
 use rule_families::family::Family;
-use std::alloc::{AllocError, Global};
 
-// Makes the calls of the script in turn on the board, up to one for whose answer there is no memory.
-// Kept: plan memory and scratch are two slices, as seek takes them; heap, board and family have other owners each.
-#[tactic(auto, using(crate::proofs::Determined::determined, crate::proofs::Scripted::ran_none))]
+// Makes the calls of the script in turn on the board, as many as there are places for answers, and tells how many.
+// Kept: plan memory and scratch are two slices, as seek takes them; board, family and answers have other owners each.
+#[tactic(auto, using(crate::proofs::Determined::determined, crate::proofs::Scripted::ran_none, crate::proofs::Scripted::all_ran, crate::proofs::Scripted::taken))]
 pub fn run<F: Family>(
-    heap: Global,
     board: &mut Board,
     family: &F,
     script: &[Call],
+    answers: &mut [Answer],
     plan: &mut [u16],
     scratch: &mut [Row],
-) -> Result<Vec<Answer>, Halted>
-    ensures runs { Runs (F.meaning family.now) board.old board.new plan.old plan.new scratch.old scratch.new script.now result }
+) -> usize
+    ensures runs { Runs (F.meaning family.now) board.old board.new plan.old plan.new scratch.old scratch.new script.now answers.old answers.new result }
     ensures promise { Promise (F.meaning family.now) }
     ensures accounts { Accounts (F.meaning family.now) }
     ensures determined { Determined (F.meaning family.now) }
 {
-    let mut answers = Vec::new(heap);
-    for call in script {
-        let Ok(()) = run_on(heap, board, family, *call, plan, scratch, &mut answers) else {
-            return Err(Halted { answers });
-        };
+    let calls = script.len().min(answers.len());
+    let mut used = 0;
+    // Kept: after a loop over the answers zipped with the script a proof knows nothing of the answers.
+    for (place, call) in script[..calls].iter().enumerate() {
+        answers[place] = run_on(board, family, *call, &mut used, plan, scratch);
     }
-    Ok(answers)
+    calls
 }
 
-// Makes one call more and notes its answer. Without memory for that it is not made.
+// Makes one call more. A plan that it finds is used from then on, so that the counts stay of which its answer tells.
 // Kept: plan memory and scratch are two slices, as seek takes them.
 fn run_on<F: Family>(
-    heap: Global,
     board: &mut Board,
     family: &F,
     call: Call,
+    used: &mut usize,
     plan: &mut [u16],
     scratch: &mut [Row],
-    answers: &mut Vec<Answer>,
-) -> Result<(), AllocError>
-    ensures { RunsOn (F.meaning family.now) board.old board.new plan.old plan.new scratch.old scratch.new call answers.old answers.new result }
+) -> Answer
+    ensures { RunsOn (F.meaning family.now) board.old board.new plan.old plan.new scratch.old scratch.new call result used.old used.new }
 {
-    // The room for an answer comes first, so that a call that is made is answered.
-    answers.reserve(1)?;
-    let answer = step(heap, board, family, call, plan, scratch)?;
-    answers.push_reserved(answer);
-    Ok(())
+    let answer = step(board, family, call, *used, plan, scratch);
+    *used = answer.used(*used);
+    answer
 }

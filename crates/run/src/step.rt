@@ -1,7 +1,7 @@
 // One call of a script.
-ghost use Rattle.std.specs.Prelude.{◌≡◌, ◌≤◌, [], length, take, vec_capacity, MatchResult};
+ghost use Rattle.std.specs.Prelude.{◌≡◌};
 ghost use Rattle.run.specs.Results.{of_ask};
-ghost use Rattle.run.specs.Scripts.{MadeAlone, Steps};
+ghost use Rattle.run.specs.Scripts.{Made, MadeAlone};
 
 use crate::answer::Answer;
 use crate::call::Call;
@@ -11,29 +11,28 @@ use bounds::cell::Cell;
 use bounds::row::Row;
 use rule_families::family::Family;
 use search::seek::seek;
-use std::alloc::{AllocError, Global};
 
-// Makes one call of a script on the board. Without memory for its answer it is not made.
+// Makes one call of a script on the board. A seek is lent the plan memory past what earlier plans use of it.
 // Kept: plan memory and scratch are two slices, as seek takes them.
 pub fn step<F: Family>(
-    heap: Global,
     board: &mut Board,
     family: &F,
     call: Call,
+    used: usize,
     plan: &mut [u16],
     scratch: &mut [Row],
-) -> Result<Answer, AllocError>
-    ensures { Steps (F.meaning family.now) board.old board.new plan.old plan.new scratch.old scratch.new call result }
+) -> Answer
+    ensures { Made (F.meaning family.now) board.old board.new used plan.old plan.new scratch.old scratch.new call result }
 {
     // Kept: calls are data, read from a script; each is answered by a method of its own.
     match call {
-        Call::Tighten { cell, low, high } => Ok(board.tighten(cell, low, high).into()),
-        Call::Open => Ok(board.open().into()),
-        Call::Keep(serial) => Ok(kept(board, serial)),
-        Call::Drop(serial) => Ok(dropped(board, serial)),
-        Call::Ask(cell) => Ok(asked(cell, board.ask(cell))),
-        Call::Settle => Ok(board.settle(family).into()),
-        Call::Seek => sought(heap, board, family, plan, scratch),
+        Call::Tighten { cell, low, high } => board.tighten(cell, low, high).into(),
+        Call::Open => board.open().into(),
+        Call::Keep(serial) => kept(board, serial),
+        Call::Drop(serial) => dropped(board, serial),
+        Call::Ask(cell) => asked(cell, board.ask(cell)),
+        Call::Settle => board.settle(family).into(),
+        Call::Seek => sought(board, family, used, plan, scratch),
     }
 }
 
@@ -51,33 +50,24 @@ fn dropped(board: &mut Board, serial: u32) -> Answer
 }
 
 fn sought<F: Family>(
-    heap: Global,
     board: &Board,
     family: &F,
+    used: usize,
     plan: &mut [u16],
     scratch: &mut [Row],
-) -> Result<Answer, AllocError>
-    ensures { Steps (F.meaning family.now) board.now board.now plan.old plan.new scratch.old scratch.new Call.Seek result }
+) -> Answer
+    ensures { Made (F.meaning family.now) board.now board.now used plan.old plan.new scratch.old scratch.new Call.Seek result }
 {
-    let cells = board.cells();
-    // The room for a plan comes first, so that a seek that is made is answered.
-    let counts = Vec::with_capacity(heap, cells)?;
-    match seek(board, family, plan, scratch) {
-        Ok(true) => Ok(Answer::Plan(copied(counts, plan, cells)?)),
-        Ok(false) => Ok(Answer::NoPlan),
-        Err(why) => Ok(Answer::Refused(why)),
+    let start = used.min(plan.len());
+    let (_, free) = plan.split_at_mut(start);
+    match seek(board, family, free, scratch) {
+        Ok(true) => Answer::Plan {
+            from: used,
+            to: used + board.cells(),
+        },
+        Ok(false) => Answer::NoPlan,
+        Err(why) => Answer::Refused(why),
     }
-}
-
-// The plan at the front of the plan memory, copied to memory that has room for it: that never fails.
-fn copied(mut counts: Vec<u16>, plan: &[u16], cells: usize) -> Result<Vec<u16>, AllocError>
-    requires none { counts.items ≡ [] }
-    requires room { cells ≤ vec_capacity counts }
-    requires whole { cells ≤ length plan.now }
-    ensures { MatchResult result (λ copy. copy.items ≡ take cells plan.now) (λ _. ⊥) }
-{
-    counts.extend_from_slice(&plan[..cells])?;
-    Ok(counts)
 }
 
 // Kept: as a From it would take a pair of the cell and the result, which is no plainer.

@@ -6,9 +6,3 @@ returns-clause-promise g c = kept _ (g.F.Family.lawful c.args.family.now)
 
 pub returns-clause-accounts : goal.returns-clause-accounts
 returns-clause-accounts g c = accounts _ (g.F.Family.lawful c.args.family.now)
-
-pub returns-in_default-clause-promise : goal.returns-in_default-clause-promise
-returns-in_default-clause-promise g c = kept _ (g.F.Family.lawful c.args.family.now)
-
-pub returns-in_default-clause-accounts : goal.returns-in_default-clause-accounts
-returns-in_default-clause-accounts g c = accounts _ (g.F.Family.lawful c.args.family.now)
