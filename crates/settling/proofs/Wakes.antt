@@ -1,17 +1,15 @@
 -- How far the rules are woken and the rows taken over: more cells, one by one and bit by bit.
-use Rattle.std.proofs.Common.{◌≡◌, ℕ, ◌+◌, ◌*◌, ◌%◌, ◌<◌, ◌≤◌, ◌||◌, Bool, true, false, ◌≢◌, ◌⊎◌, List, length, get_or, set, length-set, sym, refl, lt-ltb, ap, ◌∙◌, subst, inl, inr, arith}
+use Rattle.std.proofs.Common.{◌≡◌, ℕ, ◌+◌, ◌%◌, ◌<◌, ◌≤◌, ◌⊎◌, List, length, sym, refl, ap, ◌∙◌, subst, inl, inr, arith}
 use Rattle.std.specs.Int.{bit_at}
-use Rattle.std.proofs.lemmas.Bool.{cases_eq, cases_lt, true≢false}
-use Rattle.std.proofs.lemmas.List.{ext_get_or, get_or-set_same, get_or-set_other}
+use Rattle.std.proofs.lemmas.Bool.{cases_eq, cases_lt}
+use Rattle.std.proofs.lemmas.List.{ext_get_or}
 use Rattle.std.proofs.lemmas.Nat.Bits.{bit_at-zero}
 use Rattle.bounds.specs.declared.row.Row.{Row}
 use Rattle.bounds.specs.Boards.{none_row}
 use Rattle.rule_sets.specs.declared.rule_set.RuleSet.{RuleSet}
-use Rattle.rule_sets.specs.Members.{has, United, WithoutBit}
+use Rattle.rule_sets.specs.Members.{WithoutBit}
 use Rattle.settling.specs.declared.watchers.Watchers.{Watchers}
-use Rattle.settling.specs.Watching.{watching}
-use Rattle.settling.specs.Asleep.{Unstirred, WokenAmong, Woken, Taken, SameOutside, Within64}
-use Rattle.settling.proofs.Sleeps.{both}
+use Rattle.settling.specs.Asleep.{WokenAmong, Woken, Taken, SameOutside, Within64}
 
 -- P holds of cell k and of those of which it held before, and of no more
 pub record OneMore (P P' : ℕ → Type 0) (k : ℕ) : Type 0 where
@@ -21,49 +19,26 @@ pub record OneMore (P P' : ℕ → Type 0) (k : ℕ) : Type 0 where
   pub apart : P k → ⊥
 
 module _ (w : Watchers) (a b : List Row) (P P' : ℕ → Type 0) (k : ℕ) (more : OneMore P P' k) where
-  module _ (p p' : RuleSet) (h : WokenAmong w P a b p p') where
-    stir : (q : ℕ) → Unstirred w P a b q → (has (watching w k) q ≡ true → get_or a k none_row ≡ get_or b k none_row) → Unstirred w P' a b q
-    stir q u same c l m touched = elim (more.one c m) [
-      | inl m ↦ u c l m touched
-      | inr e ↦ ap (λ j. get_or a j none_row) e ∙ same (ap (λ j. has (watching w j) q) (sym e) ∙ touched) ∙ ap (λ j. get_or b j none_row) (sym e)
-    ]
-
-    pub same_row : get_or a k none_row ≡ get_or b k none_row → WokenAmong w P' a b p p'
-    same_row e q l off = let (was, u) = h q l off in (was, stir q u (λ _. e))
-
-    neither : (x y : Bool) → (x || y) ≡ false → (x ≡ false) × (y ≡ false)
-    neither true y e = absurd (true≢false e)
-    neither false y e = (refl, e)
-
-    pub woken_here : (p'' : RuleSet) → United p' (watching w k) w.words p'' → WokenAmong w P' a b p p''
-    woken_here p'' u q l off =
-        let (was, not_here) = neither (has p' q) _ (sym (u q) ∙ off) in
-        let (was, same) = h q l was in
-        (was, stir q same (λ here. absurd (true≢false (sym (both _ _ (lt-ltb q (64 * w.words) l) here) ∙ not_here))))
-
   module _ (a' : List Row) (t : Taken P a b a') where
-    pub row_before : get_or a' k none_row ≡ get_or a k none_row
-    row_before = t.others k more.apart
+    pub woken_one : (p p' p'' : RuleSet) → WokenAmong w P a b p p' → WokenAmong w (λ c. c ≡ k) a' b p' p'' → WokenAmong w P' a b p p''
+    woken_one p p' p'' h f q l off =
+        let (not_then, here) = f q l off in
+        let (was, before) = h q l not_then in (
+          was,
+          λ c o m touched. elim (more.one c m) [
+            | inl d ↦ before c o d touched
+            | inr e ↦ sym (t.others c (λ d. more.apart (subst P e d))) ∙ here c o e touched
+          ],
+        )
 
-    pub row_stays : get_or a' k none_row ≡ get_or b k none_row → Taken P' a b a'
-    row_stays e = record {
-      long = t.long;
-      taken = λ c l m. elim (more.one c m) [
-        | inl m ↦ t.taken c l m
-        | inr is ↦ ap (λ j. get_or a' j none_row) is ∙ e ∙ ap (λ j. get_or b j none_row) (sym is)
+    pub taken_one : (a'' : List Row) → Taken (λ c. c ≡ k) a' b a'' → Taken P' a b a''
+    taken_one a'' f = record {
+      long = f.long ∙ t.long;
+      taken = λ c o m. elim (more.one c m) [
+        | inl d ↦ f.others c (λ e. more.apart (subst P e d)) ∙ t.taken c o d
+        | inr e ↦ f.taken c o e
       ];
-      others = λ c not. t.others c (λ m. not (more.kept c m));
-    }
-
-    pub row_taken : k < length a' → Taken P' a b (set a' k (get_or b k none_row))
-    row_taken l = let row = get_or b k none_row in record {
-      long = length-set a' k row ∙ t.long;
-      taken = λ c o m. elim (cases_eq c k) [
-        | inl is ↦ ap (λ j. get_or (set a' k row) j none_row) is ∙ get_or-set_same a' k row none_row l ∙ ap (λ j. get_or b j none_row) (sym is)
-        | inr apart ↦ get_or-set_other a' k c row none_row apart ∙ t.taken c o (elim (more.one c m) [ inl m ↦ m | inr is ↦ absurd (apart is) ])
-      ];
-      others = λ c not. let apart : c ≢ k = λ is. not (subst P' (sym is) more.here) in
-          get_or-set_other a' k c row none_row apart ∙ t.others c (λ m. not (more.kept c m));
+      others = λ c not. f.others c (λ e. not (subst P' (sym e) more.here)) ∙ t.others c (λ d. not (more.kept c d));
     }
 
   pub passed : length b ≤ k → (p p' : RuleSet) → WokenAmong w P a b p p' → WokenAmong w P' a b p p'

@@ -68,6 +68,7 @@ pub fn settle_from<F: Family>(
 }
 
 // Narrows the rows by the rule: where it is quiet it waits no more, and where it narrows them it wakes what it may have stirred.
+#[tactic(auto, using(crate::proofs::Sleeps::same_outside))]
 fn apply<F: Family>(
     family: &F,
     watchers: &Watchers,
@@ -146,11 +147,31 @@ fn wake_64(
     let mut left = reach;
     while let Some(bit) = lowest_bit(left) {
         let cell = first + bit;
-        if cell < rows.len() && !stays(before[cell], rows[cell]) {
-            before[cell] = rows[cell];
-            pending.unite(&watchers.by_cell[cell], watchers.words);
+        if cell < rows.len() {
+            wake_at(watchers, cell, before, rows, pending);
         }
         left = without_bit(left, bit);
+    }
+}
+
+// The same of one cell.
+fn wake_at(
+    watchers: &Watchers,
+    cell: usize,
+    before: &mut [Row],
+    rows: &[Row],
+    pending: &mut RuleSet,
+)
+    requires cell { cell < length rows.now }
+    requires few { length rows.now ≤ 1024 }
+    requires words { watchers.now.words ≤ 64 }
+    requires before { length before.old ≡ length rows.now }
+    ensures woken { WokenAmong watchers.now (λ c. c ≡ cell) before.old rows.now pending.old pending.new }
+    ensures before { Taken (λ c. c ≡ cell) before.old rows.now before.new }
+{
+    if !stays(before[cell], rows[cell]) {
+        before[cell] = rows[cell];
+        pending.unite(&watchers.by_cell[cell], watchers.words);
     }
 }
 

@@ -1,11 +1,10 @@
-use Rattle.std.proofs.Common.{◌+◌, List, sym, subst, ◌∙◌, arith}
+use Rattle.std.proofs.Common.{◌+◌, List, sym, subst, arith}
 use Rattle.bounds.specs.declared.row.Row.{Row}
 use Rattle.rule_sets.specs.declared.rule_set.RuleSet.{RuleSet}
 use Rattle.settling.specs.Asleep.{WokenAmong, Taken}
-use Rattle.settling.proofs.Words.{rows_agree}
-use Rattle.settling.proofs.Wakes.{Done, step, same_row, woken_here, passed, row_stays, row_taken, row_passed, row_before}
+use Rattle.settling.proofs.Wakes.{Done, step, woken_one, taken_one, passed, row_passed}
 use Rattle.settling.proofs.settle.wake_64.Goals as goal
-use Rattle.settling.proofs.settle.wake_64.Goals.{then-cell-rows+then-not-stays, else-cell-rows, else-cell-rows-via-then-cell-rows+else-not-stays, else-cell-rows-via-else-cell-rows}
+use Rattle.settling.proofs.settle.wake_64.Goals.{then-cell-rows, else-cell-rows}
 
 pub loop-bit-preserved : goal.loop-bit-preserved
 loop-bit-preserved c =
@@ -20,16 +19,10 @@ loop-bit-preserved c =
     let (woken, taken) = c.loop-bit.invariant in
     let Kept : RuleSet → List Row → Type 0 = λ p r. WokenAmong w P' a b c.args.pending.now p × Taken P' a b r in
     elim c.if-cell-rows.branch [
-      | then-cell-rows+then-not-stays v ↦
-          subst (λ p. Kept p c.if-cell-rows.before) (sym v.pending-is) (subst (Kept v.unite.new.self) (sym v.before-is)
-          (woken_here w a b P P' cell more _ _ woken _ v.unite.ensures, row_taken w a b P P' cell more _ taken (omega (arith, c.requires.before, taken.long))))
+      | then-cell-rows v ↦
+          subst (λ p. Kept p c.if-cell-rows.before) (sym v.pending-is) (subst (Kept v.wake_at.new.pending) (sym v.before-is)
+          (woken_one w a b P P' cell more _ taken _ _ _ woken v.wake_at.ensures.woken, taken_one w a b P P' cell more _ taken _ v.wake_at.ensures.before))
       | else-cell-rows v ↦
           subst (λ p. Kept p c.if-cell-rows.before) (sym v.pending-is) (subst (Kept c.loop-bit.pending) (sym v.before-is)
-          (elim v.else-cell-rows.branch [
-            | else-cell-rows-via-then-cell-rows+else-not-stays u ↦
-                let same = rows_agree u.stays.result _ _ u.stays.ensures u.if-not-stays.false in
-                (same_row w a b P P' cell more _ _ woken (sym (row_before w a b P P' cell more _ taken) ∙ same), row_stays w a b P P' cell more _ taken same)
-            | else-cell-rows-via-else-cell-rows u ↦
-                (passed w a b P P' cell more (omega (arith, u.if-cell-rows.false)) _ _ woken, row_passed w a b P P' cell more (omega (arith, u.if-cell-rows.false)) _ taken)
-          ]))
+          (passed w a b P P' cell more (omega (arith, v.if-cell-rows.false)) _ _ woken, row_passed w a b P P' cell more (omega (arith, v.if-cell-rows.false)) _ taken))
     ]
