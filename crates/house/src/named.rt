@@ -32,6 +32,10 @@ impl Named for Mirror {
 
     ghost few = { λ m. lit≤ tt };
 
+    fn is_exact(&self) -> bool {
+        true
+    }
+
     fn narrow_own(&self, own: &mut [Row]) -> Change {
         written(own, self.narrowed(array_of(own)))
     }

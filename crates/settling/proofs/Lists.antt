@@ -7,7 +7,7 @@ use Rattle.rule_sets.specs.declared.rule_set.RuleSet.{RuleSet}
 use Rattle.rule_sets.specs.Members.{has, Empty, Inserted, no_rules}
 use Rattle.std.specs.Int.{bit_at}
 use Rattle.settling.specs.declared.watchers.Watchers.{Watchers}
-use Rattle.settling.specs.Watching.{watching, Listed, ListedBelow, AllIdempotent, Reaches}
+use Rattle.settling.specs.Watching.{watching, Listed, ListedBelow, AllIdempotent, Reaches, Watching, WatchingBelow, WatchesTo}
 
 none_below : (q : ℕ) → ltb q 0 ≡ false
 none_below q = elim (cases_Bool (ltb q 0)) [
@@ -37,7 +37,7 @@ one_later q r apart = elim (cases_lt q r) [
 
 -- one rule more
 module _ (m : Meaning) (n r : ℕ) (w w' : Watchers) (l : Listed m n r w w') where
-  pub listed_more : ListedBelow m n r w → ListedBelow m n (r + 1) w'
+  listed_more : ListedBelow m n r w → ListedBelow m n (r + 1) w'
   listed_more h c q k = elim (cases_eq q r) [
     | inl same ↦ subst (λ i. has (watching w' c) i ≡ (ltb i (r + 1) && (m.rule i).touches n c)) (sym same)
         (l.rule c k (h c r k ∙ ap (λ b. b && (m.rule r).touches n c) (le-ltb r r (omega arith)))
@@ -45,11 +45,29 @@ module _ (m : Meaning) (n r : ℕ) (w w' : Watchers) (l : Listed m n r w w') whe
     | inr apart ↦ l.others c q apart ∙ h c q k ∙ ap (λ b. b && (m.rule q).touches n c) (one_later q r apart)
   ]
 
-  pub known_still : AllIdempotent m w.idempotent → AllIdempotent m w'.idempotent
+  known_still : AllIdempotent m w.idempotent → AllIdempotent m w'.idempotent
   known_still = subst (AllIdempotent m) (sym l.idempotent)
 
-  pub reach_more : ((q : ℕ) → q < r → Reaches m n q w) → (q : ℕ) → q < r + 1 → Reaches m n q w'
+  reach_more : ((q : ℕ) → q < r → Reaches m n q w) → (q : ℕ) → q < r + 1 → Reaches m n q w'
   reach_more below q o c k touched = elim (cases_eq q r) [
     | inl same ↦ subst (λ i. Reaches m n i w') (sym same) l.reach c k touched
     | inr apart ↦ ap (λ x. bit_at x (c % 64)) (l.other_reach q apart) ∙ below q (omega arith) c k touched
   ]
+
+pub one_more_rule : (m : Meaning) (n r : ℕ) (w w' : Watchers) → WatchesTo m n r w → Listed m n r w w' → WatchesTo m n (r + 1) w'
+unfolding WatchesTo
+one_more_rule m n r w w' at l = record {
+  room = omega (arith, at.room, l.words);
+  few = omega (arith, at.few, l.words);
+  listed = listed_more m n r w w' l at.listed;
+  reach = reach_more m n r w w' l at.reach;
+  known = known_still m n r w w' l at.known;
+}
+
+pub no_rules_yet : (m : Meaning) (n : ℕ) (w : Watchers) → WatchingBelow m n 0 w → WatchesTo m n 0 w
+unfolding WatchesTo
+no_rules_yet m n w at = at
+
+pub all_rules : (m : Meaning) (n r : ℕ) (w : Watchers) → r ≡ m.size → WatchesTo m n r w → Watching m n w
+unfolding WatchesTo
+all_rules m n r w e at = subst (λ k. WatchingBelow m n k w) e at

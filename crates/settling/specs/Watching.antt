@@ -22,12 +22,20 @@ AllIdempotent m s = (q : ℕ) → has s q ≡ true → Idempotent (m.rule q)
 abbrev pub Reaches : Meaning → ℕ → ℕ → Watchers → Type 0
 Reaches m n q w = (c : ℕ) → c < n → (m.rule q).touches n c ≡ true → bit_at (slice_index w.reach q) (c % 64) ≡ 1
 
-pub record Watching (m : Meaning) (n : ℕ) (w : Watchers) : Type 0 where
+-- what a table says of the cells of n, where the rules below r are listed
+pub record WatchingBelow (m : Meaning) (n r : ℕ) (w : Watchers) : Type 0 where
   pub room : m.size ≤ 64 * w.words
   pub few : w.words ≤ 64
-  pub listed : ListedBelow m n m.size w
-  pub reach : (q : ℕ) → q < m.size → Reaches m n q w
+  pub listed : ListedBelow m n r w
+  pub reach : (q : ℕ) → q < r → Reaches m n q w
   pub known : AllIdempotent m w.idempotent
+
+-- the same, as a word that search takes whole
+unfoldable pub WatchesTo : Meaning → ℕ → ℕ → Watchers → Type 0
+WatchesTo = WatchingBelow
+
+abbrev pub Watching : Meaning → ℕ → Watchers → Type 0
+Watching m n w = WatchingBelow m n m.size w
 
 -- rule r is listed with the cells that it touches, where no other is listed anew
 pub record Listed (m : Meaning) (n r : ℕ) (w w' : Watchers) : Type 0 where

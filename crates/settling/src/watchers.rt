@@ -20,6 +20,7 @@ pub struct Watchers {
 }
 
 impl Watchers {
+    #[tactic(auto, using(crate::proofs::Lists::one_more_rule))]
     pub fn of<F: Family>(family: &F, cells: usize) -> Watchers
         requires { cells ≤ 1024 }
         ensures { Watching (F.meaning family.now) cells result }
