@@ -150,4 +150,4 @@ def told(number, form):
 
 
 def ratio(ours, theirs):
-    return f"{ours / theirs:.1f}" if ours is not None and theirs else "-"
+    return f"{ours / theirs:.2f}" if ours is not None and theirs else "-"

@@ -51,6 +51,12 @@ def turned(crate, rows):
         yield None, name, old
 
 
+def sources(crate):
+    """Each function of a crate as (file, name, first line, text)."""
+    files = [p for p in sorted(crate.glob("src/**/*.rt")) if p.name != "tests.rt"]
+    return [(p, *f) for p in files for f in functions(p.read_text())]
+
+
 def main():
     rows, heading = {}, None
     for line in pathlib.Path("docs/PLANTED.md").read_text().split("\n"):
@@ -59,8 +65,7 @@ def main():
         elif row := ROW.match(line):
             rows.setdefault(heading, []).append((row.group(1), row.group(2).replace("\\|", "|")))
     for crate in sorted(pathlib.Path("crates").iterdir()):
-        files = [p for p in sorted(crate.glob("src/**/*.rt")) if p.name != "tests.rt"]
-        found = [(p, *f, []) for p in files for f in functions(p.read_text())]
+        found = [(*f, []) for f in sources(crate)]
         for edit, where, old in turned(crate, rows):
             hits = [f for f in found if old in f[3] and where in (f[1], str(f[0].relative_to(crate)))]
             if len(hits) != 1:
@@ -74,4 +79,5 @@ def main():
                 print(f"{path}:{line}: {name}")
 
 
-main()
+if __name__ == "__main__":
+    main()

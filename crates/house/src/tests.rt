@@ -7,6 +7,9 @@ use rule_families::beside::Beside;
 use rule_families::change::Change;
 use rule_families::family::Family;
 use rules::numbered::Rules;
+use run::answer::Answer;
+use run::call::Call;
+use run::script::run;
 use search::seek::seek;
 use settling::settled::Settled;
 use std::test::Fail;
@@ -121,5 +124,42 @@ fn the_first_plan_has_them_near(rt: HostRuntime) -> Result<(), Fail> {
     let mut scratch = [Row::default(); 12];
     assert!(rt; seek(&board, &rules(), &mut plan, &mut scratch)?);
     assert_eq!(rt; plan, [5, 7, 12]);
+    Ok(())
+}
+
+#[test]
+fn two_plans_of_a_script(rt: HostRuntime) -> Result<(), Fail> {
+    let mut board = start(&rt)?;
+    let script = [
+        Call::Seek,
+        Call::Tighten {
+            cell: 0,
+            low: 6,
+            high: 6,
+        },
+        Call::Seek,
+        Call::Open,
+    ];
+    let mut answers = [Answer::NoPlan; 3];
+    let mut plans = [0; 7];
+    let mut scratch = [Row::default(); 12];
+    let calls = run(
+        &mut board,
+        &rules(),
+        &script,
+        &mut answers,
+        &mut plans,
+        &mut scratch,
+    );
+    assert_eq!(rt; calls, 3, "there are three places for answers");
+    assert_eq!(rt;
+        answers,
+        [
+            Answer::Plan { from: 0, to: 3 },
+            Answer::Granted,
+            Answer::Plan { from: 3, to: 6 },
+        ]
+    );
+    assert_eq!(rt; plans, [5, 7, 12, 6, 6, 12, 0]);
     Ok(())
 }

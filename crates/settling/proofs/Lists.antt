@@ -7,7 +7,7 @@ use Rattle.rule_sets.specs.declared.rule_set.RuleSet.{RuleSet}
 use Rattle.rule_sets.specs.Members.{has, Empty, Inserted, no_rules}
 use Rattle.std.specs.Int.{bit_at}
 use Rattle.settling.specs.declared.watchers.Watchers.{Watchers}
-use Rattle.settling.specs.Watching.{watching, Listed, ListedBelow, AllIdempotent, Reaches, Watching, WatchingBelow, WatchesTo}
+use Rattle.settling.specs.Watching.{watching, Listed, ListedBelow, AllIdempotent, Reaches, Watching, WatchingBelow}
 
 none_below : (q : ℕ) → ltb q 0 ≡ false
 none_below q = elim (cases_Bool (ltb q 0)) [
@@ -53,6 +53,10 @@ module _ (m : Meaning) (n r : ℕ) (w w' : Watchers) (l : Listed m n r w w') whe
     | inl same ↦ subst (λ i. Reaches m n i w') (sym same) l.reach c k touched
     | inr apart ↦ ap (λ x. bit_at x (c % 64)) (l.other_reach q apart) ∙ below q (omega arith) c k touched
   ]
+
+-- the table so far, as a word that search takes whole
+unfoldable pub WatchesTo : Meaning → ℕ → ℕ → Watchers → Type 0
+WatchesTo = WatchingBelow
 
 pub one_more_rule : (m : Meaning) (n r : ℕ) (w w' : Watchers) → WatchesTo m n r w → Listed m n r w w' → WatchesTo m n (r + 1) w'
 unfolding WatchesTo

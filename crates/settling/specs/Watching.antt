@@ -30,10 +30,6 @@ pub record WatchingBelow (m : Meaning) (n r : ℕ) (w : Watchers) : Type 0 where
   pub reach : (q : ℕ) → q < r → Reaches m n q w
   pub known : AllIdempotent m w.idempotent
 
--- the same, as a word that search takes whole
-unfoldable pub WatchesTo : Meaning → ℕ → ℕ → Watchers → Type 0
-WatchesTo = WatchingBelow
-
 abbrev pub Watching : Meaning → ℕ → Watchers → Type 0
 Watching m n w = WatchingBelow m n m.size w
 

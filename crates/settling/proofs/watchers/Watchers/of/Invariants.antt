@@ -1,4 +1,4 @@
-use Rattle.settling.specs.Watching.{WatchesTo}
+use Rattle.settling.proofs.Lists.{WatchesTo}
 use Rattle.settling.proofs.watchers.Watchers.of.Given as goal
 
 abbrev pub invariant-loop-rule : goal.invariant-loop-rule
