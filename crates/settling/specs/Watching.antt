@@ -46,7 +46,7 @@ pub record Listed (m : Meaning) (n r : ℕ) (w w' : Watchers) : Type 0 where
 abbrev pub Touches : Meaning → ℕ → ℕ → List Bool → Type 0
 Touches m n r marks = (c : ℕ) → c < n → slice_index_or marks c false ≡ (m.rule r).touches n c
 
--- the rule itself, where it is noted as idempotent
+-- the rule itself, if it is noted as idempotent
 abbrev pub Rests : Watchers → ℕ → Option ℕ → Type 0
-Rests w r None = Unit {0}
+Rests w r None = has w.idempotent r ≡ false
 Rests w r (Some q) = (q ≡ r) × (has w.idempotent r ≡ true)
