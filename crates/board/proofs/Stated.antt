@@ -32,32 +32,32 @@ sound_more : (m k : ℕ) (a : List Row) → sound (take m a) ≡ true → sound 
 sound_more m k a s t = rw (take-add m k a) (sound_append (take m a) (take k (drop m a)) s t)
 
 module _ (n : ℕ) where
-  slot_length : (d m : ℕ) (a : List Row) → d < m → m * n ≤ length a → length (slot n d a) ≡ n
+  pub slot_length : (d m : ℕ) (a : List Row) → d < m → m * n ≤ length a → length (slot n d a) ≡ n
   slot_length d m a h l = length-take-le n (drop (d * n) a) (rw (length-drop (d * n) a) (omega (arith, room_for n d m h)))
 
   -- what a paste of n rows at the start leaves
-  from_start : (rows xs ys : List Row) → length rows ≡ n → Pasted 0 rows xs ys → (take n ys ≡ rows) × (drop n ys ≡ drop n xs)
+  pub from_start : (rows xs ys : List Row) → length rows ≡ n → Pasted 0 rows xs ys → (take n ys ≡ rows) × (drop n ys ≡ drop n xs)
   from_start rows xs ys l p = (
     ap (λ m. take m ys) (sym l) ∙ p.middle,
     subst (λ m. drop m ys ≡ drop m xs) (zero-add (length rows) ∙ l) p.after,
   )
 
 -- what a paste into a slice of a Vec leaves in the Vec
-pasted_into : (v : Vec Row Global) (p : ℕ) (from rows xs ws : List Row) → from ≡ rows → xs ≡ vec_items v → length ws ≡ vec_len v → Pasted p from xs ws
+pub pasted_into : (v : Vec Row Global) (p : ℕ) (from rows xs ws : List Row) → from ≡ rows → xs ≡ vec_items v → length ws ≡ vec_len v → Pasted p from xs ws
     → Pasted p rows (vec_items v) (vec_items (with_items v ws))
 pasted_into v p from rows xs ws e f l h = rw (with_items_is v ws l, ← e, ← f) h
 
-abbrev voided : Control → Control
+abbrev pub voided : Control → Control
 voided k = record { cells = k.cells; void = true; given = k.given; depth = k.depth; trials = k.trials }
 
 -- the rows that come back in the Vec
-refilled_front : (m : Meaning) (n : ℕ) (v : Vec Row Global) (xs ws : List Row) (r : Settled) → xs ≡ vec_items v → length ws ≡ vec_len v
+pub refilled_front : (m : Meaning) (n : ℕ) (v : Vec Row Global) (xs ws : List Row) (r : Settled) → xs ≡ vec_items v → length ws ≡ vec_len v
     → Settles m (take n xs) (take n ws) r → drop n ws ≡ drop n xs
     → let ys = vec_items (with_items v ws) in Settles m (take n (vec_items v)) (take n ys) r × (drop n ys ≡ drop n (vec_items v))
 refilled_front m n v xs ws r e l front past = rw (with_items_is v ws l, ← e) (front, past)
 
 module _ (m : Meaning) (k : Control) (a b saved : List Row) (n : ℕ) (full : k.void ≡ false) where
-  does_settled : Settles m (take k.cells a) (take k.cells b) (settle.Settled n)
+  pub does_settled : Settles m (take k.cells a) (take k.cells b) (settle.Settled n)
       → Does m (state_of k a saved) (settled n) (state_of k b saved)
   does_settled (applied, still, _, _) = (
     full,
@@ -66,19 +66,19 @@ module _ (m : Meaning) (k : Control) (a b saved : List Row) (n : ℕ) (full : k.
     λ j. record { is_void = full j; rows = (state_of k b saved).rows; given = k.given; trials = (state_of k b saved).trials },
   )
 
-  does_emptied : Settles m (take k.cells a) (take k.cells b) (settle.Void n)
+  pub does_emptied : Settles m (take k.cells a) (take k.cells b) (settle.Void n)
       → Does m (state_of k a saved) (emptied n) (state_of (voided k) b saved)
   does_emptied ((i, r, e, applied, low, voids), _, _) =
       subst (λ v. Empties m (state_of k a saved) n (state_of (voided k) b saved) v) (sym full) (i, r, e, applied, low, voids, refl)
 
   module _ (laws : FiveLaws m) (ok : sound (take k.cells a) ≡ true) where
-    leaves_settled : Settles m (take k.cells a) (take k.cells b) (settle.Settled n)
+    pub leaves_settled : Settles m (take k.cells a) (take k.cells b) (settle.Settled n)
         → WidestIn m (state_of k a saved) (board (state_of k b saved))
     leaves_settled (applied, still, _, _) =
         subst (λ v. WidestIn m (state_of k a saved) (cond v void (cells (state_of k b saved).rows))) (sym full)
         (widest_settled m (state_of k a saved) laws full ok applied still)
 
-    leaves_emptied : Settles m (take k.cells a) (take k.cells b) (settle.Void n)
+    pub leaves_emptied : Settles m (take k.cells a) (take k.cells b) (settle.Void n)
         → WidestIn m (state_of k a saved) (board (state_of (voided k) b saved))
     leaves_emptied ((i, r, e, applied, low, voids), _, _) =
         widest_emptied m (state_of k a saved) laws full ok applied r low voids

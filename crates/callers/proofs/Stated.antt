@@ -39,7 +39,7 @@ module _ (s t u v : State) (slip : Slip) (o : Does none s (opened slip.serial) t
       )
 
 -- as found, and then as found again
-onward : (b c d : Held) → LeftAsFound b c → LeftAsFound c d → LeftAsFound b d
+pub onward : (b c d : Held) → LeftAsFound b c → LeftAsFound c d → LeftAsFound b d
 onward b c d x y = record { same_board = y.same_board ∙ x.same_board; same_trials = y.same_trials ∙ x.same_trials }
 
 pub stayed : (b c : Held) → state c ≡ state b → LeftAsFound b c

@@ -12,15 +12,15 @@ use Rattle.house.specs.Mirrors.{alike}
 use Rattle.house.proofs.Closed.{reached, mirror_exact}
 
 -- g has the counts of the row a from b's low less `most` to b's high and `most`
-abbrev Near : ℕ → Row → Row → Row → Type 0
+abbrev pub Near : ℕ → Row → Row → Row → Type 0
 Near most a b g = (g.low ≡ max a.low (b.low - most)) × (g.high ≡ min a.high (b.high + most))
 
-near_is : (most : ℕ) (a b g : Row) → g ≡ common a (b.low - most) (b.high + most) → Near most a b g
+pub near_is : (most : ℕ) (a b g : Row) → g ≡ common a (b.low - most) (b.high + most) → Near most a b g
 near_is most a b g e = (ap (λ r. r.low) e, ap (λ r. r.high) e)
 
 module _ (most : ℕ) (a b g h : Row) (left : Near most a b g) (right : Near most b a h) where
   -- where one of the new rows is empty, no filling meets the mirror
-  closed_void : (g.high < g.low) ⊎ (h.high < h.low) → exact (alike most) (two a b) ≡ void
+  pub closed_void : (g.high < g.low) ⊎ (h.high < h.low) → exact (alike most) (two a b) ≡ void
   closed_void e = mirror_exact most a b g h left right ∙ cond-false _ _ _ (unsound e)
     where
       unsound : (g.high < g.low) ⊎ (h.high < h.low) → sound (two g h) ≡ false
@@ -31,7 +31,7 @@ module _ (most : ℕ) (a b g h : Row) (left : Near most a b g) (right : Near mos
     both : sound (two g h) ≡ true
     both = and_from _ _ (le-leb g.low g.high some_left) (and_from _ true (le-leb h.low h.high some_right) refl)
 
-    closed_cells : exact (alike most) (two a b) ≡ cells (two g h)
+    pub closed_cells : exact (alike most) (two a b) ≡ cells (two g h)
     closed_cells = mirror_exact most a b g h left right ∙ cond-true _ _ _ both
 
     -- any count of a new row is that of a filling that meets the mirror
@@ -42,11 +42,11 @@ module _ (most : ℕ) (a b g h : Row) (left : Near most a b g) (right : Near mos
     at_right y i = reached most a b g h left right both 1 (omega arith) y i
 
 -- both written over
-set_two : (a : List Row) (x y : Row) → length a ≡ 2 → set (set a 0 x) 1 y ≡ two x y
+pub set_two : (a : List Row) (x y : Row) → length a ≡ 2 → set (set a 0 x) 1 y ≡ two x y
 set_two [] x y e = absurd (omega arith)
 set_two (r ∷ []) x y e = absurd (omega arith)
 set_two (r ∷ (s ∷ [])) x y e = refl
 set_two (r ∷ (s ∷ (t ∷ a))) x y e = absurd (omega arith)
 
-same_two : (a : List Row) (x y : Row) → length a ≡ 2 → x ≡ get_or a 0 none_row → y ≡ get_or a 1 none_row → two x y ≡ a
+pub same_two : (a : List Row) (x y : Row) → length a ≡ 2 → x ≡ get_or a 0 none_row → y ≡ get_or a 1 none_row → two x y ≡ a
 same_two a x y e l r = ap₂ two l r ∙ sym (as_two a e)

@@ -20,10 +20,10 @@ part_cut : (xs : List ℕ) (start end least : ℕ) → start < least → least �
     → take (least - start) (drop start xs) ≡ drop start (take end xs)
 part_cut xs start end least h e = part_is xs start least (omega arith) ∙ ap (drop start) (clipped xs end least e)
 
-part_none : (xs : List ℕ) (start end least : ℕ) → least ≤ start → least ≡ min end (length xs) → [] ≡ drop start (take end xs)
+pub part_none : (xs : List ℕ) (start end least : ℕ) → least ≤ start → least ≡ min end (length xs) → [] ≡ drop start (take end xs)
 part_none xs start end least h e = sym (drop_all start (take end xs) (omega (arith, length-take end xs)))
 
-refused_contents : (f : List ℕ) (r : Refused) → contents_fault f ≡ Some r → reading f ≡ refused r
+pub refused_contents : (f : List ℕ) (r : Refused) → contents_fault f ≡ Some r → reading f ≡ refused r
 refused_contents f r e = ap (λ (o : Option Refused). unless o (bodies f nothing (entries f))) e
 
 -- a file whose contents have no fault
@@ -31,7 +31,7 @@ module _ (f : List ℕ) (none : contents_fault f ≡ None) where
   short_file : length f ≤ 65535
   short_file = ltb-false _ _ (when_none _ _ (first_none (long f) _ none).0)
 
-  few_entries : get_or f 0 0 ≤ 4
+  pub few_entries : get_or f 0 0 ≤ 4
   few_entries =
       let c = first_none (miscounted f) _ (first_none (short f) _ (first_none (long f) _ none).1).1 in
       let fits : between 1 4 (get_or f 0 0) ≡ true = not-false _ (when_none _ _ c.0) in

@@ -13,8 +13,8 @@ weighed_none [] = refl
 weighed_none (w ∷ ws) = refl
 
 -- the limits before any cell is weighed
-limits_none : (ws : List ℕ) (floor ceiling : ℕ) → limits [] floor ceiling [] ≡ limits ws floor ceiling []
+pub limits_none : (ws : List ℕ) (floor ceiling : ℕ) → limits [] floor ceiling [] ≡ limits ws floor ceiling []
 limits_none ws floor ceiling = let e = weighed_none ws in same_limits _ _ refl refl (sym e) (sym e)
 
-totals_lawful : (file places : List ℕ) → FiveLaws (totals file places)
+pub totals_lawful : (file places : List ℕ) → FiveLaws (totals file places)
 totals_lawful file places = numbered_lawful _ _ (λ r. total_laws (total_at file _))

@@ -22,7 +22,7 @@ module _ (f : ℕ → ℕ) (need : ℕ) where
   seek_last k (suc n) l = cond-true _ _ _ (lt-ltb (f k) need (l k (omega arith) (omega arith)))
       ∙ (seek_last (suc k) n (λ j p q. l j (omega arith) (omega arith)) ∙ omega arith)
 
-  seek_past : (k m : ℕ) → m ≤ k → seek f need k (m - k) ≡ k
+  pub seek_past : (k m : ℕ) → m ≤ k → seek f need k (m - k) ≡ k
   seek_past k m h = let e : m - k ≡ 0 = omega arith in ap (seek f need k) e
 
 abbrev pub frame_made : Sums → (floor ceiling fewest most under at over : ℕ) → Frame

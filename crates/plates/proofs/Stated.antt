@@ -37,13 +37,13 @@ module _ (f : List ℕ) (i : ℕ) where
   size_is : length (numbers (number 2 f (i + 4)) f (i + 6)) ≡ number 2 f (i + 4)
   size_is = length_numbers (number 2 f (i + 4)) f (i + 6)
 
-  arity_some : (n : ℕ) → n ≡ number 2 f (i + 4) → 0 < n → n ≤ 64 → n + 2 ≡ length scope
+  pub arity_some : (n : ℕ) → n ≡ number 2 f (i + 4) → 0 < n → n ≤ 64 → n + 2 ≡ length scope
   arity_some n e p q =
       let m = size_is in
       let t = cond-true (some size) named [] (and_from (leb 1 size) (leb size 64) (le-leb 1 size (omega arith)) (le-leb size 64 (omega arith))) in
       omega (arith, ap length t)
 
-  arity_none : (n : ℕ) → n ≡ number 2 f (i + 4) → (n ≤ 0) ⊎ (64 < n) → 0 ≡ length scope
+  pub arity_none : (n : ℕ) → n ≡ number 2 f (i + 4) → (n ≤ 0) ⊎ (64 < n) → 0 ≡ length scope
   arity_none n e c =
       let m = size_is in
       let t : some size ≡ false = elim c [
@@ -53,7 +53,7 @@ module _ (f : List ℕ) (i : ℕ) where
       omega (arith, ap length (cond-false (some size) named [] t))
 
   -- the number of counts stands between the variety and the first count
-  abbrev Index : ℕ → ℕ → Type 0
+  abbrev pub Index : ℕ → ℕ → Type 0
   Index j x = ((j < 2) × (x ≡ j)) ⊎ ((2 ≤ j) × (x ≡ j + 1))
 
   named_at : (j x : ℕ) → Index j x → j < length named → get_or named j 0 ≡ number 2 f (i + 2 * x)
@@ -61,24 +61,24 @@ module _ (f : List ℕ) (i : ℕ) where
   named_at (suc zero) x e l = ap (number 2 f) (omega arith)
   named_at (suc (suc j)) x e l = get_or_numbers (number 2 f (i + 4)) f (i + 6) j (omega (arith, size_is)) ∙ ap (number 2 f) (omega arith)
 
-  cell_at : (j x : ℕ) → Index j x → j < length scope → number 2 f (i + 2 * x) ≡ get_or scope j 0
+  pub cell_at : (j x : ℕ) → Index j x → j < length scope → number 2 f (i + 2 * x) ≡ get_or scope j 0
   cell_at j x e = cond_both (some size) named [] (λ (cs : List ℕ). j < length cs → number 2 f (i + 2 * x) ≡ get_or cs j 0)
       (λ _ l. sym (named_at j x e l)) (λ _ l. absurd (omega arith))
 
 -- no cells, nothing to narrow
-exact_none : (rows : List Row) → length rows ≡ 0 → exact plate rows ≡ cells rows
+pub exact_none : (rows : List Row) → length rows ≡ 0 → exact plate rows ≡ cells rows
 exact_none [] l = refl
 exact_none (r ∷ rows) l = absurd (omega arith)
 
 -- The search for the fewest, step by step.
 
-seek_more : (f : ℕ → ℕ) (need k m : ℕ) → f k < need → k < m → seek f need k (m - k) ≡ seek f need (k + 1) (m - (k + 1))
+pub seek_more : (f : ℕ → ℕ) (need k m : ℕ) → f k < need → k < m → seek f need k (m - k) ≡ seek f need (k + 1) (m - (k + 1))
 seek_more f need k m h l =
     let e : m - k ≡ suc (m - (k + 1)) = omega arith in
     let s : suc k ≡ k + 1 = omega arith in
     ap (seek f need k) e ∙ cond-true (ltb (f k) need) (seek f need (suc k) (m - (k + 1))) k (lt-ltb (f k) need h) ∙ ap (λ j. seek f need j (m - (k + 1))) s
 
-seek_stop : (f : ℕ → ℕ) (need k n : ℕ) → need ≤ f k → seek f need k n ≡ k
+pub seek_stop : (f : ℕ → ℕ) (need k n : ℕ) → need ≤ f k → seek f need k n ≡ k
 seek_stop f need k zero h = refl
 seek_stop f need k (suc n) h = cond-false (ltb (f k) need) (seek f need (suc k) n) k (le-ltb (f k) need h)
 
@@ -90,14 +90,14 @@ seek_same f g need k (suc n) h =
     λ i. cond (ltb (d i) need) (e i) k
 
 module _ (s v : Row) (cs : List Row) (t : List ℕ) (sm : Sums) (a : Summed cs sm 64) (b : Topped cs t sm 64) where
-  fewest_sought : (least m r : ℕ) → least ≡ v.low - certain cs → m ≡ most s v cs → r ≡ seek (sum_at t sm.base) s.low least (m - least) → r ≡ fewest s v cs
+  pub fewest_sought : (least m r : ℕ) → least ≡ v.low - certain cs → m ≡ most s v cs → r ≡ seek (sum_at t sm.base) s.low least (m - least) → r ≡ fewest s v cs
   fewest_sought least m r x y z =
       let o = a.optionals in
       z ∙ (λ i. seek (sum_at t sm.base) s.low (x i) (y i - x i))
       ∙ seek_same (sum_at t sm.base) (reach cs) s.low (v.low - certain cs) (most s v cs - (v.low - certain cs)) (λ j p q. reach_is s v cs t sm a b j (omega arith))
 
   -- the frame from its sums, with one more than the most or without
-  framed_sums : (m r over j : ℕ) → m ≡ most s v cs → r ≡ fewest s v cs → j ≡ r - 1 → certain cs ≤ v.high → low_sum cs ≤ s.high → r ≤ m → s.low ≤ sum_at t sm.base r
+  pub framed_sums : (m r over j : ℕ) → m ≡ most s v cs → r ≡ fewest s v cs → j ≡ r - 1 → certain cs ≤ v.high → low_sum cs ≤ s.high → r ≤ m → s.low ≤ sum_at t sm.base r
       → ((m < sm.optional) × (over ≡ sum_at t sm.base (m + 1))) ⊎ ((sm.optional ≤ m) × (over ≡ sum_at t sm.base m))
       → s.low < 65536 → s.high < 65536 → v.high < 65536
       → let f = frame_made sm s.low s.high r m (sum_at t sm.base j) (sum_at t sm.base m) over in Framed s v cs (Some f) × Small f
@@ -124,11 +124,11 @@ added_nil (x ∷ t) n p = (
     only_zero zero q = refl
     only_zero (suc k) q = absurd (omega arith)
 
-added_none : (cs : List Row) (t : List ℕ) (n : ℕ) → 0 < length t → Added (drop (length cs) cs) (set t 0 0) (sums 0 0 0 0) n
+pub added_none : (cs : List Row) (t : List ℕ) (n : ℕ) → 0 < length t → Added (drop (length cs) cs) (set t 0 0) (sums 0 0 0 0) n
 added_none cs t n p = rw (drop_all (length cs) cs (omega arith)) (added_nil t n p)
 
 -- the row before
-before : (P : List Row → ℕ → Type 0) (cs : List Row) (i : ℕ) → 0 < i → i ≤ length cs
+pub before : (P : List Row → ℕ → Type 0) (cs : List Row) (i : ℕ) → 0 < i → i ≤ length cs
     → P (get_or cs (i - 1) none_row ∷ drop i cs) (suc (length cs - i)) → P (drop (i - 1) cs) (length cs - (i - 1))
 before P cs i p q h =
     let e : (i - 1) + 1 ≡ i = omega arith in
@@ -138,27 +138,27 @@ before P cs i p q h =
     subst₂ P d m h
 
 module _ (cs : List Row) (t : List ℕ) (s : Sums) (i : ℕ) (p : 0 < i) (q : i ≤ length cs) (w : Added (drop i cs) t s (length cs - i)) where
-  abbrev here : Row
+  abbrev pub here : Row
   here = get_or cs (i - 1) none_row
 
-  added_certain : 0 < here.low → here.low < 65536 → here.high < 65536
+  pub added_certain : 0 < here.low → here.low < 65536 → here.high < 65536
       → Added (drop (i - 1) cs) t (sums (s.certain + 1) s.optional (s.lows + here.low) (s.base + here.high)) (length cs - (i - 1))
   added_certain a b c = before (λ ds m. Added ds t (sums (s.certain + 1) s.optional (s.lows + here.low) (s.base + here.high)) m) cs i p q
       (certain_front (drop i cs) t s (length cs - i) w here.low here.high here.low here.high refl refl a b c)
 
-  added_absent : here.low ≤ 0 → here.high ≤ 0
+  pub added_absent : here.low ≤ 0 → here.high ≤ 0
       → Added (drop (i - 1) cs) t (sums s.certain s.optional (s.lows + here.low) s.base) (length cs - (i - 1))
   added_absent a b = before (λ ds m. Added ds t (sums s.certain s.optional (s.lows + here.low) s.base) m) cs i p q
       (absent_front (drop i cs) t s (length cs - i) w here.low here.high here.low refl a b)
 
-  added_optional : (u : List ℕ) → here.low ≤ 0 → 0 < here.high → here.high < 65536 → Admitted t u s.optional here.high
+  pub added_optional : (u : List ℕ) → here.low ≤ 0 → 0 < here.high → here.high < 65536 → Admitted t u s.optional here.high
       → Added (drop (i - 1) cs) u (sums s.certain (s.optional + 1) (s.lows + here.low) s.base) (length cs - (i - 1))
   added_optional u a b c g = before (λ ds m. Added ds u (sums s.certain (s.optional + 1) (s.lows + here.low) s.base) m) cs i p q
       (optional_front (drop i cs) t s (length cs - i) w here.low here.high here.low u refl a b c g)
 
 -- A loop that writes over each row, and notes whether one differs.
 
-writing_none : (f : Row → Row) (xs : List Row) → Writing f xs xs 0 false
+pub writing_none : (f : Row → Row) (xs : List Row) → Writing f xs xs 0 false
 writing_none f xs = record {
   done = λ j l. absurd (omega arith);
   left = λ j l. refl;
@@ -166,7 +166,7 @@ writing_none f xs = record {
   other = λ e. absurd (true≢false (sym e));
 }
 
-writing_more : (f : Row → Row) (xs ys : List Row) (i : ℕ) (b d : Bool) (n : Row) → i < length ys → Writing f xs ys i b → n ≡ f (get_or ys i none_row)
+pub writing_more : (f : Row → Row) (xs ys : List Row) (i : ℕ) (b d : Bool) (n : Row) → i < length ys → Writing f xs ys i b → n ≡ f (get_or ys i none_row)
     → ((d ≡ true) × (n ≢ get_or ys i none_row)) ⊎ ((d ≡ b) × (n ≡ get_or ys i none_row)) → Writing f xs (set ys i n) (i + 1) d
 writing_more f xs ys i b d n l w e t =
     let here : get_or ys i none_row ≡ get_or xs i none_row = w.left i (omega arith) in
@@ -184,18 +184,18 @@ writing_more f xs ys i b d n l w e t =
 -- The rows of slots, variety and the counts in one list.
 
 -- the counts, as the code cuts them off
-abbrev counts : List Row → List Row
+abbrev pub counts : List Row → List Row
 counts rows = take (length rows - 2) (drop 2 rows)
 
 -- the rows with the first two written
-abbrev headed : List Row → Row → Row → List Row
+abbrev pub headed : List Row → Row → Row → List Row
 headed rows a b = set (set rows 0 a) 1 b
 
 -- and then the counts
-abbrev whole : List Row → Row → Row → List Row → List Row
+abbrev pub whole : List Row → Row → Row → List Row → List Row
 whole rows a b ys = put_mid 2 (length (headed rows a b) - 2) (headed rows a b) ys
 
-void_listed : (rows : List Row) → 2 ≤ length rows → sound rows ≡ true
+pub void_listed : (rows : List Row) → 2 ≤ length rows → sound rows ≡ true
     → feasible (get_or rows 0 none_row) (get_or rows 1 none_row) (counts rows) ≡ false → exact plate rows ≡ void
 void_listed [] n s h = absurd (omega arith)
 void_listed (x ∷ []) n s h = absurd (omega arith)
@@ -203,7 +203,7 @@ void_listed (x ∷ (y ∷ cs)) n s h =
     let e : counts (x ∷ (y ∷ cs)) ≡ cs = take_all _ cs (omega arith) in
     void_outcome x y cs s (rw e at h)
 
-record Whole (rows : List Row) (a b : Row) (ys : List Row) (moved first second : Bool) : Type 0 where
+pub record Whole (rows : List Row) (a b : Row) (ys : List Row) (moved first second : Bool) : Type 0 where
   pub is : exact plate rows ≡ cells (whole rows a b ys)
   pub same : moved ≡ false → first ≡ false → second ≡ false → whole rows a b ys ≡ rows
   pub other : (moved ≡ true) ⊎ ((first ≡ true) ⊎ (second ≡ true)) → whole rows a b ys ≢ rows
@@ -213,7 +213,7 @@ cells_are : (x y : Row) (cs : List Row) → sound (x ∷ (y ∷ cs)) ≡ true �
 cells_are x y cs s f h e =
     some_outcome x y cs s h ∙ ap (λ (g : Frame). cells (rows_of g cs)) (sym e)
 
-whole_outcome : (rows : List Row) → 2 ≤ length rows → sound rows ≡ true → (f : Frame) (a b : Row) (ys : List Row) (moved first second : Bool)
+pub whole_outcome : (rows : List Row) → 2 ≤ length rows → sound rows ≡ true → (f : Frame) (a b : Row) (ys : List Row) (moved first second : Bool)
     → Framed (get_or rows 0 none_row) (get_or rows 1 none_row) (counts rows) (Some f) → a ≡ slots_of f → b ≡ variety_of f
     → Wrote f (counts (headed rows a b)) ys moved → Differ a (get_or rows 0 none_row) first → Differ b (get_or rows 1 none_row) second
     → Whole rows a b ys moved first second

@@ -8,17 +8,17 @@ use Rattle.rule_families.specs.declared.change.Change.TheVariants.{Quiet, Narrow
 use Rattle.rule_families.specs.Narrows.{Narrows}
 
 module _ (f : List Row → Board) (a x : List Row) where
-  narrowed_to : (c : Change) (g : List Row) → f a ≡ cells g → g ≢ a → Narrows f a x c → (c ≡ Narrowed) × (x ≡ g)
+  pub narrowed_to : (c : Change) (g : List Row) → f a ≡ cells g → g ≢ a → Narrows f a x c → (c ≡ Narrowed) × (x ≡ g)
   narrowed_to Quiet g e d n = absurd (d (cells_same g a (sym e ∙ n.0)))
   narrowed_to Narrowed g e d n = (refl, cells_same x g (sym n.0 ∙ e))
   narrowed_to Void g e d n = absurd (cells_void g (sym e ∙ n.0))
 
-  quiet_at : (c : Change) → f a ≡ cells a → Narrows f a x c → (c ≡ Quiet) × (x ≡ a)
+  pub quiet_at : (c : Change) → f a ≡ cells a → Narrows f a x c → (c ≡ Quiet) × (x ≡ a)
   quiet_at Quiet e n = (refl, n.1)
   quiet_at Narrowed e n = absurd (n.1 (cells_same x a (sym n.0 ∙ e)))
   quiet_at Void e n = absurd (cells_void a (sym e ∙ n.0))
 
-  void_at : (c : Change) → f a ≡ void → Narrows f a x c → (c ≡ Void) × (x ≡ a)
+  pub void_at : (c : Change) → f a ≡ void → Narrows f a x c → (c ≡ Void) × (x ≡ a)
   void_at Quiet e n = absurd (cells_void a (sym n.0 ∙ e))
   void_at Narrowed e n = absurd (cells_void x (sym n.0 ∙ e))
   void_at Void e n = (refl, n.1)

@@ -4,5 +4,5 @@ use Rattle.std.proofs.lemmas.List.Sums.{count_by-le-length}
 use Rattle.bounds.specs.declared.row.Row.{Row}
 use Rattle.search.specs.Seeks.{opens}
 
-opens_length : (a : List Row) → opens a ≤ length a
+pub opens_length : (a : List Row) → opens a ≤ length a
 opens_length a = count_by-le-length (λ (r : Row). ltb r.low r.high) a

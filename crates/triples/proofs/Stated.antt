@@ -23,18 +23,18 @@ rule_laws = none_laws rule_of (λ t. exact_on_laws (scope t.kind t.a t.b t.c) (r
 triple_laws : (f : List ℕ) (i : ℕ) → ScopedLaws (triple_rule f i)
 triple_laws f i = rule_laws (read f i)
 
-at_unsound : (a : List Row) (i : ℕ) → i < length a → high_at a i < low_at a i → sound a ≡ false
+pub at_unsound : (a : List Row) (i : ℕ) → i < length a → high_at a i < low_at a i → sound a ≡ false
 at_unsound a i l h = elim (cases_Bool (sound a)) [ inl s ↦ absurd (omega (arith, sound_at a s i l)) | inr n ↦ n ]
 
-cut_is : (g a : Row) (l h : ℕ) → g ≡ common a l h → Cut g a l h
+pub cut_is : (g a : Row) (l h : ℕ) → g ≡ common a l h → Cut g a l h
 cut_is g a l h e = (ap (λ r. r.low) e, ap (λ r. r.high) e)
 
 -- an answer that is the closed form of the rows one by one is their exact narrowing
-exact_array : (meets : List ℕ → Bool) {a g : List Row} {b d : Board} → a ≡ g → b ≡ d → exact meets g ≡ d → b ≡ exact meets a
+pub exact_array : (meets : List ℕ → Bool) {a g : List Row} {b d : Board} → a ≡ g → b ≡ d → exact meets g ≡ d → b ≡ exact meets a
 exact_array meets e answer closed = answer ∙ sym (ap (exact meets) e ∙ closed)
 
 -- a triple that names no cell twice is exact on every board
-exact_since : (t : Triple) (r : Bool) → r ≡ distinct (rule_of t).scope → r ≡ true → ExactOnBoards (rule_of t)
+pub exact_since : (t : Triple) (r : Bool) → r ≡ distinct (rule_of t).scope → r ≡ true → ExactOnBoards (rule_of t)
 exact_since t r e h a s = lifted_exact (scope t.kind t.a t.b t.c) (relation t.kind) a (sym e ∙ h) s
 
 -- the three kinds over three rows one by one
@@ -42,11 +42,11 @@ module _ (a b c g h k : Row) where
   abbrev Exact : (List ℕ → Bool) → Type 0
   Exact meets = exact meets (three a b c) ≡ cond (sound (three g h k)) (cells (three g h k)) void
 
-  union_exact : (x y : ℕ) → UnionRows a b c g h k x y → Exact (relation Union)
+  pub union_exact : (x y : ℕ) → UnionRows a b c g h k x y → Exact (relation Union)
   union_exact x y u = exact_three max a b c g h k (union_narrowed a b c g h k x y u)
 
-  intersection_exact : (x y : ℕ) → IntersectionRows a b c g h k x y → Exact (relation Intersection)
+  pub intersection_exact : (x y : ℕ) → IntersectionRows a b c g h k x y → Exact (relation Intersection)
   intersection_exact x y u = exact_three min a b c g h k (intersection_narrowed a b c g h k x y u)
 
-  plus_exact : (top : ℕ) → PlusRows a b c g h k top → Exact (relation UnionPlus)
+  pub plus_exact : (top : ℕ) → PlusRows a b c g h k top → Exact (relation UnionPlus)
   plus_exact top u = exact_three ◌+◌ a b c g h k (plus_narrowed a b c g h k top u)
