@@ -2,7 +2,7 @@
 // Kept: c stands beside the kind as it stands in the record of each kind, where a subset has a number too.
 ghost use Rattle.std.specs.Prelude.{◌≡◌, true};
 ghost use Rattle.bounds.specs.Scoped.{distinct};
-ghost use Rattle.triples.specs.Triples.{rule_of, triple_rule, triple_laws, ExactOnBoards};
+ghost use Rattle.triples.specs.Triples.{read, rule_of, triple_rule, triple_laws, ExactOnBoards};
 
 use bounds::scope::distinct;
 use records::body::BodyKind;
@@ -23,15 +23,31 @@ impl Recorded<'_> for Triple {
 
     ghost reads_lawful = { λ spot. triple_laws spot.bytes.now spot.place };
 
-    // None where the kind is unknown.
     fn read(spot: Spot<'_>) -> Option<Triple> {
-        let TripleRecord { kind, a, b, c } = Triples::read(spot);
-        let kind = TripleKind::try_from(kind).ok()?;
-        Some(Triple { kind, a, b, c })
+        Triple::of(spot)
     }
 }
 
 impl Triple {
+    // The triple whose record stands at a place of the file, if its kind is known.
+    pub fn at(file: &[u8], place: u16) -> Option<Triple>
+        ensures { result ≡ read file.now place }
+    {
+        Triple::of(Spot {
+            bytes: file,
+            place: usize::from(place),
+        })
+    }
+
+    // The same at a spot.
+    fn of(spot: Spot<'_>) -> Option<Triple>
+        ensures { result ≡ read spot.entry.bytes.now spot.entry.place }
+    {
+        let TripleRecord { kind, a, b, c } = Triples::read(spot);
+        let kind = TripleKind::try_from(kind).ok()?;
+        Some(Triple { kind, a, b, c })
+    }
+
     // Whether no cell is named twice: the narrowing of any board is then exact, the hull of its fillings that meet the triple.
     #[tactic(auto, using(bounds::proofs::Lifted::lifted_exact))]
     pub fn names_each_once(&self) -> bool
