@@ -9,7 +9,7 @@ use bounds::row::Row;
 use bounds::scope::Scope;
 use rule_families::change::Change;
 use rules::arrays::{array_of, written};
-use rules::named::Named;
+use rules::named::{Lawful, Named};
 
 impl Scope for Mirror {
     ghost scope = { scope_of };
@@ -26,8 +26,6 @@ impl Scope for Mirror {
 impl Named for Mirror {
     ghost scoped = { mirror_rule };
 
-    ghost lawful = { λ m. exact_on_laws (scope_of m) (alike m.most) };
-
     ghost names_them = { λ m. refl };
 
     ghost few = { λ m. lit≤ tt };
@@ -39,4 +37,12 @@ impl Named for Mirror {
     fn narrow_own(&self, own: &mut [Row]) -> Change {
         written(own, self.narrowed(array_of(own)))
     }
+}
+
+impl Lawful for Mirror {
+    ghost asks = { mirror_rule };
+
+    ghost lawful = { λ m. exact_on_laws (scope_of m) (alike m.most) };
+
+    ghost as_scoped = { λ m. refl };
 }

@@ -16,7 +16,7 @@ use records::body::BodyKind;
 use records::bytes::Spot;
 use records::plates::Plates;
 use rule_families::change::Change;
-use rules::named::Named;
+use rules::named::{Lawful, Named};
 
 // The plate whose record stands at a spot of the file.
 // Kept: a total is such a struct too; one for both would lie in rules, below plates and totals, which could give it no rule of their own.
@@ -105,8 +105,6 @@ impl Scope for Plate<'_> {
 impl Named for Plate<'_> {
     ghost scoped = { λ p. plate_rule p.spot.bytes.now p.spot.place };
 
-    ghost lawful = { λ p. exact_on_laws (scope_of (plate_at p.spot.bytes.now p.spot.place)) plate };
-
     ghost names_them = { λ p. refl };
 
     ghost few = { λ p. let r = plate_at p.spot.bytes.now p.spot.place in two_and_64 (nat_le 1 (length r.counts)) r.slots r.variety r.counts };
@@ -125,4 +123,12 @@ impl Named for Plate<'_> {
         };
         narrow(slots, variety, counts)
     }
+}
+
+impl Lawful for Plate<'_> {
+    ghost asks = { λ p. plate_rule p.spot.bytes.now p.spot.place };
+
+    ghost lawful = { λ p. exact_on_laws (scope_of (plate_at p.spot.bytes.now p.spot.place)) plate };
+
+    ghost as_scoped = { λ p. refl };
 }

@@ -22,8 +22,6 @@ const SOME_NAMED: usize = 16;
 pub trait Named: Scope {
     ghost scoped: { Self → Scoped };
 
-    ghost lawful: { (r : Self) → ScopedLaws (scoped r) };
-
     // Narrows the rows of the cells that the rule names, in its order; on void they stay as they were.
     fn narrow_own(&self, own: &mut [Row]) -> Change
         requires own { length own.old ≡ length (scoped self.now).scope }
@@ -41,6 +39,16 @@ pub trait Named: Scope {
     ghost names_them: { (r : Self) → Self.scope r ≡ (scoped r).scope };
 
     ghost few: { (r : Self) → length (scoped r).scope ≤ 66 };
+}
+
+// A rule with the laws, so that lists of such rules are families.
+pub trait Lawful: Named {
+    // What the rule asks, as `scoped` has it: data of a trait, as the laws are, can speak of no other trait's members.
+    ghost asks: { Self → Scoped };
+
+    ghost lawful: { (r : Self) → ScopedLaws (asks r) };
+
+    ghost as_scoped: { (r : Self) → asks r ≡ Self.scoped r };
 }
 
 // Whether the rule, on a board of so many cells, touches the cell.

@@ -5,7 +5,7 @@ ghost use Rattle.bounds.specs.Listed.{numbered};
 ghost use Rattle.bounds.specs.Scoped.{Scoped, ScopedLaws, on_board};
 ghost use Rattle.rules.specs.Numbers.{or_none, none_laws};
 
-use crate::named::{self, Named};
+use crate::named::{self, Lawful, Named};
 use bounds::row::Row;
 use rule_families::change::Change;
 use rule_families::family::{Family, MOST_RULES};
@@ -31,14 +31,14 @@ pub trait Numbered {
 }
 
 // A list of rules.
-impl<R: Named + Copy> Numbered for &[R] {
+impl<R: Lawful + Copy> Numbered for &[R] {
     type Rule = R;
 
     ghost count = { λ s. length s.now };
 
-    ghost at = { λ s number. or_none R.scoped (slice_get s.now number) };
+    ghost at = { λ s number. or_none R.asks (slice_get s.now number) };
 
-    ghost lawful = { λ s number. none_laws R.scoped R.lawful (slice_get s.now number) };
+    ghost lawful = { λ s number. none_laws R.asks R.lawful (slice_get s.now number) };
 
     fn count(&self) -> usize {
         self.len()

@@ -10,7 +10,7 @@ use bounds::scope::Scope;
 use records::triples::TripleKind;
 use rule_families::change::Change;
 use rules::arrays::{array_of, written};
-use rules::named::Named;
+use rules::named::{Lawful, Named};
 
 impl Scope for Triple {
     ghost scope = { λ t. (rule_of t).scope };
@@ -27,8 +27,6 @@ impl Scope for Triple {
 
 impl Named for Triple {
     ghost scoped = { rule_of };
-
-    ghost lawful = { λ t. exact_on_laws (scope t.kind t.a t.b t.c) (relation t.kind) };
 
     ghost names_them = { λ t. refl };
 
@@ -47,4 +45,12 @@ impl Named for Triple {
             TripleKind::Subset => written(own, narrowing::subset(array_of(own))),
         }
     }
+}
+
+impl Lawful for Triple {
+    ghost asks = { rule_of };
+
+    ghost lawful = { λ t. exact_on_laws (scope t.kind t.a t.b t.c) (relation t.kind) };
+
+    ghost as_scoped = { λ t. refl };
 }

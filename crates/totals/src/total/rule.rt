@@ -12,7 +12,7 @@ use bounds::scope::Scope;
 use records::body::BodyKind;
 use records::totals::Totals;
 use rule_families::change::Change;
-use rules::named::Named;
+use rules::named::{Lawful, Named};
 
 // Most totals name so few cells, and do not pay for the room that the largest needs.
 const FEW_CELLS: usize = 16;
@@ -44,8 +44,6 @@ impl Scope for Total<'_> {
 impl Named for Total<'_> {
     ghost scoped = { λ t. total_scoped (record_of t) };
 
-    ghost lawful = { λ t. total_laws (record_of t) };
-
     ghost names_them = { λ t. refl };
 
     ghost few = { λ t. total_few (record_of t) };
@@ -58,6 +56,14 @@ impl Named for Total<'_> {
             self.narrow_in::<MOST_CELLS>(own)
         }
     }
+}
+
+impl Lawful for Total<'_> {
+    ghost asks = { λ t. total_scoped (record_of t) };
+
+    ghost lawful = { λ t. total_laws (record_of t) };
+
+    ghost as_scoped = { λ t. refl };
 }
 
 impl Total<'_> {
