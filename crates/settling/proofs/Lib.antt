@@ -5,3 +5,4 @@ pub mod Sleeps
 pub mod Words
 pub mod Wakes
 pub mod Scans
+pub mod Stated
