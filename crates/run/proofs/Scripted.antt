@@ -55,6 +55,26 @@ used_so u (settled n) a w = ap (used_by u) w ∙ omega arith
 used_so u (emptied n) a w = ap (used_by u) w ∙ omega arith
 used_so u (none_found pr sr) a w = ap (used_by u) w ∙ omega arith
 
+-- a run and one call more, for which plan memory was used up to where the plans of the run end
+pub ran_more : (m : Meaning) (b : Board) (p : List ℕ) (s : List Row) (c d : Board) (u : ℕ) (q r : List ℕ) (t w : List Row)
+    (xs : List Call) (answers : List Answer) (x : Call) (a : Answer)
+    → length q ≡ length p → length t ≡ length s → (ran : Ran m b c p q s t xs answers) → u ≡ length (plans ran.events)
+    → Made m c d u q r t w x a → Ran m b d p r s w (xs ++ x ∷ []) (answers ++ a ∷ [])
+ran_more m b p s c d u q r t w xs answers x a len same ran used made =
+    let k = plans ran.events in
+    record {
+      events = made.event ∷ ran.events;
+      logs = one_more ran.logs x a made.event
+          (made.asks ∙ ap₂ (λ (n j : ℕ). call_of n j x) (ap₂ ◌-◌ len used) same)
+          (subst (λ (n : ℕ). Answers n made.event a) used made.answers);
+      leads = then ran.leads made.event (state d) made.does;
+      stays = stays_on b c d ran.stays made.stays;
+      plan = written_on k (plan_of made.event) p q r ran.plan
+          (subst (λ (n : ℕ). r ≡ take n q ++ plan_of made.event ++ drop (n + length (plan_of made.event)) q) used made.plan);
+      scratch = λ h. let e = neither (searches made.event) (some_searches ran.events) h in made.scratch e.0 ∙ ran.scratch e.1;
+      keeps = λ job ok es earlier. (ran.keeps job ok es earlier, made.keeps job ok _ (joined earlier ran.leads));
+    }
+
 module _ (m : Meaning) (b : Board) (p : List ℕ) (s : List Row) (xs : List Call) (was : List Answer) where
   pub ran_none : FiveLaws m → RanTo m b b p p s s xs was was 0 0
   unfolding RanTo
@@ -85,30 +105,28 @@ module _ (m : Meaning) (b : Board) (p : List ℕ) (s : List Row) (xs : List Call
     room : i < length now
     room = omega (arith, place, so.rooms.2)
 
-    logged : Logs (length p) (length s) (take (i + 1) xs) (take (i + 1) (set now i a)) (made.event ∷ so.ran.events)
+    more : Ran m b d p r s w (take i xs ++ get_or xs i x ∷ []) (take i now ++ a ∷ [])
+    more = ran_more m b p s c d u q r t w (take i xs) (take i now) (get_or xs i x) a len same so.ran so.used made
+
+    logged : Logs (length p) (length s) (take (i + 1) xs) (take (i + 1) (set now i a)) more.events
     logged =
-        subst (λ (ys : List Answer). Logs (length p) (length s) (take (i + 1) xs) ys (made.event ∷ so.ran.events)) (sym (take_more_set now i a room))
-        (subst (λ (zs : List Call). Logs (length p) (length s) zs (take i now ++ a ∷ []) (made.event ∷ so.ran.events)) (sym (take_more xs i x lt))
-        (one_more so.ran.logs (get_or xs i x) a made.event
-        (made.asks ∙ ap₂ (λ (n j : ℕ). call_of n j (get_or xs i x)) (ap₂ ◌-◌ len so.used) same)
-        (subst (λ (n : ℕ). Answers n made.event a) so.used made.answers)))
+        subst (λ (ys : List Answer). Logs (length p) (length s) (take (i + 1) xs) ys more.events) (sym (take_more_set now i a room))
+        (subst (λ (zs : List Call). Logs (length p) (length s) zs (take i now ++ a ∷ []) more.events) (sym (take_more xs i x lt)) more.logs)
 
     -- the next call of the script, whose answer is written at its place
     pub ran_next : (v : ℕ) → v ≡ used_by u a → Reached m b d p r s w xs was (set now i a) (i + 1) v
+    unfolding more ran_more
     ran_next v is =
-        let ran = so.ran in
-        let k = plans ran.events in
-        let leads = then ran.leads made.event (state d) made.does in
+        let k = plans so.ran.events in
         record {
           ran = record {
-            events = made.event ∷ ran.events;
+            events = more.events;
             logs = logged;
-            leads = leads;
-            stays = stays_on b c d ran.stays made.stays;
-            plan = written_on k (plan_of made.event) p q r ran.plan
-                (subst (λ (n : ℕ). r ≡ take n q ++ plan_of made.event ++ drop (n + length (plan_of made.event)) q) so.used made.plan);
-            scratch = λ h. let e = neither (searches made.event) (some_searches ran.events) h in made.scratch e.0 ∙ ran.scratch e.1;
-            keeps = λ job ok es earlier. (ran.keeps job ok es earlier, made.keeps job ok _ (joined earlier ran.leads));
+            leads = more.leads;
+            stays = more.stays;
+            plan = more.plan;
+            scratch = more.scratch;
+            keeps = more.keeps;
           };
           past = drop-set-lt (i + 1) now i a (omega arith) ∙ sym (drop-drop 1 i now) ∙ ap (drop 1) so.past ∙ drop-drop 1 i was;
           used = is ∙ used_so u made.event a made.answers ∙ ap (λ (n : ℕ). n + length (plan_of made.event)) so.used
