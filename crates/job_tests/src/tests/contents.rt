@@ -33,6 +33,16 @@ fn changed(
     Ok(())
 }
 
+// A plate with two counts on four cells, byte by byte.
+#[test]
+fn the_smallest_plate(rt: HostRuntime) {
+    let file = [
+        2, 1, 0x13, 0, 0, 0, 0x10, 0, 0, 0, 2, 0x23, 0, 0, 0, 0x0a, 0, 0, 0, 0, 0, 2, 0, 0, 0, 2,
+        0, 3, 0, 3, 0, 0, 0, 2, 0, 2, 0, 3, 0, 2, 0, 0, 0, 1, 0,
+    ];
+    assert_eq!(rt; tried(&file), granted(4, 2, 1));
+}
+
 #[test]
 fn longest(rt: HostRuntime) -> Result<(), Fail> {
     let heap = rt.alloc();
@@ -112,6 +122,15 @@ fn offsets(rt: HostRuntime) -> Result<(), Fail> {
     changed(&rt, 4, &[(11, 52, 10), (11, 54, 10), (14, 255, 10)])?;
     changed(&rt, 4, &[(20, 62, 19), (20, 64, 19), (22, 1, 19)])?;
     changed(&rt, 4, &[(29, 70, 28), (29, 72, 28), (32, 128, 28)])
+}
+
+// Of one body, whose entry is the first and the last: a cell of four bytes at 10.
+#[test]
+fn one_entry(rt: HostRuntime) {
+    for (offset, size) in [(9, 4), (11, 3), (10, 5), (10, 3)] {
+        let file = [1, 1, offset, 0, 0, 0, size, 0, 0, 0, 0, 0, 9, 0];
+        assert_eq!(rt; tried(&file), refused(4, 0, 1), "{size} bytes at {offset}");
+    }
 }
 
 // A body that ends elsewhere moves where the next is due, and may end with the file, not past it.

@@ -42,9 +42,10 @@ fn in_one_record(rt: HostRuntime) -> Result<(), Fail> {
 #[test]
 fn in_two_records(rt: HostRuntime) -> Result<(), Fail> {
     let heap = rt.alloc();
-    let cases: [(u8, &[u16], u8, u16); 8] = [
+    let cases: [(u8, &[u16], u8, u16); 9] = [
         // plates of 8 bytes: twice before no cell, before past the end, and after each; lawful before each
         (2, &[2, 2, 1, 0, 2, 4, 1, 0], 7, 35),
+        (2, &[2, 3, 1, 3, 2, 9, 1, 0], 7, 35),
         (2, &[2, 2, 1, 0, 2, 3, 9], 7, 35),
         (2, &[2, 4, 1, 0, 2, 2, 1, 0], 6, 35),
         (2, &[2, 4, 1, 0, 2, 3, 9], 6, 35),
