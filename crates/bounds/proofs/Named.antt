@@ -1,5 +1,5 @@
 -- What is asked of the cells of a scope, asked of their indices one by one.
-use Rattle.std.proofs.Common.{◌≡◌, ℕ, suc, ◌+◌, ◌<◌, Bool, true, false, cond, not, ◌&&◌, ◌||◌, List, [], ◌∷◌, length, drop, ◌==◌, nat_lt, slice_index, refl, ap, ap₂, ◌∙◌, arith}
+use Rattle.std.proofs.Common.{◌≡◌, ℕ, zero, suc, eqb, get_or, take, ◌+◌, ◌<◌, Bool, true, false, cond, not, ◌&&◌, ◌||◌, List, [], ◌∷◌, length, drop, ◌==◌, nat_lt, slice_index, refl, ap, ap₂, ◌∙◌, arith}
 use Rattle.std.specs.List.{list_all, list_any, range_with_len}
 use Rattle.bounds.specs.Scoped.{fits, names, distinct}
 
@@ -38,3 +38,20 @@ distinct_by_index [] test a e = refl
 distinct_by_index (c ∷ cs) test a e =
     let of = λ (i : ℕ). not (again (c ∷ cs) i) in
     ap₂ (λ x y. x && y) (first test of a (length cs) e) (distinct_by_index cs test (a + 1) (further test of a (length cs) e))
+
+names_suc : (cs : List ℕ) (i c : ℕ) → i < length cs → names (take (suc i) cs) c ≡ (names (take i cs) c || eqb (get_or cs i 0) c)
+names_suc [] i c l = absurd (omega arith)
+names_suc (x ∷ cs) zero c l = one (eqb x c)
+  where
+    one : (b : Bool) → cond b true false ≡ (false || b)
+    one true = refl
+    one false = refl
+names_suc (x ∷ cs) (suc i) c l = ap (cond (eqb x c) true) (names_suc cs i c (omega arith)) ∙ past (eqb x c) (names (take i cs) c) (eqb (get_or cs i 0) c)
+  where
+    past : (b y z : Bool) → cond b true (y || z) ≡ (cond b true y || z)
+    past true y z = refl
+    past false y z = refl
+
+-- of the first cells, the next is one more that is named
+pub names_next : (cs : List ℕ) (i c : ℕ) → i < length cs → names (take (i + 1) cs) c ≡ (names (take i cs) c || eqb (get_or cs i 0) c)
+names_next cs i c l = let one : i + 1 ≡ suc i = omega arith in ap (λ k. names (take k cs) c) one ∙ names_suc cs i c l

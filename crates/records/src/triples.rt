@@ -85,9 +85,8 @@ impl BodyKind for Triples {
     }
 
     fn keeps_limits(at: Spot<'_>) -> bool {
-        let triple = Self::read(at);
-        match TripleKind::try_from(triple.kind) {
-            Ok(TripleKind::Subset) => triple.c == NO_CELL,
+        match TripleKind::try_from(at.u16(0)) {
+            Ok(TripleKind::Subset) => at.u16(6) == NO_CELL,
             Ok(_) => true,
             Err(Unknown) => false,
         }
@@ -95,18 +94,18 @@ impl BodyKind for Triples {
 
     #[tactic(auto, using(crate::proofs::Tied::names_tied, crate::proofs::Tied::names_three))]
     fn arity(at: Spot<'_>) -> usize {
-        match TripleKind::try_from(Self::read(at).kind) {
+        match TripleKind::try_from(at.u16(0)) {
             Ok(kind) => kind.arity(),
             Err(Unknown) => 3,
         }
     }
 
+    // Kept: one number is read and not the record, which would be read anew for each cell.
     fn name(at: Spot<'_>, index: usize) -> u16 {
-        let triple = Self::read(at);
         match index {
-            0 => triple.a,
-            1 => triple.b,
-            2 if Self::arity(at) == 3 => triple.c,
+            0 => at.u16(2),
+            1 => at.u16(4),
+            2 if Self::arity(at) == 3 => at.u16(6),
             _ => 0,
         }
     }

@@ -61,6 +61,14 @@ impl<A: Family, B: Family> Family for Beside<A, B> {
         }
     }
 
+    fn list(&self, rule: usize, cells: usize, room: &mut [usize]) -> Option<usize> {
+        match self.place(rule) {
+            Some(Place::First(own)) => self.first.list(own, cells, room),
+            Some(Place::Second(own)) => self.second.list(own, cells, room),
+            None => Some(0),
+        }
+    }
+
     fn is_idempotent(&self, rule: usize) -> bool {
         match self.place(rule) {
             Some(Place::First(own)) => self.first.is_idempotent(own),

@@ -2,7 +2,7 @@
 ghost use Rattle.std.specs.Prelude.{◌≡◌, true};
 ghost use Rattle.bounds.specs.Boards.{sound};
 ghost use Rattle.bounds.specs.Laws.{Meaning, FiveLaws, Idempotent};
-ghost use Rattle.rule_families.specs.Marks.{Marks};
+ghost use Rattle.rule_families.specs.Marks.{Marks, Lists};
 ghost use Rattle.rule_families.specs.Narrows.{Narrows};
 
 use crate::change::Change;
@@ -34,6 +34,14 @@ pub trait Family {
                 *marked = true;
             }
         }
+    }
+
+    // Lists the cells that the rule touches, on a board of so many cells, in the room that is lent, and tells how many they are.
+    // None tells nothing: of a rule that is not listed each cell is asked by its mark.
+    fn list(&self, rule: usize, cells: usize, room: &mut [usize]) -> Option<usize>
+        ensures { Lists ((meaning self.now).rule rule) cells room.new result }
+    {
+        None
     }
 
     // Whether the rule is known to be quiet on rows that it has narrowed, so that it need not be applied to them again.

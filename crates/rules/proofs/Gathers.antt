@@ -5,6 +5,7 @@ use Rattle.std.proofs.lemmas.List.{get_or-set_same, get_or-set_other}
 use Rattle.bounds.specs.declared.row.Row.{Row}
 use Rattle.bounds.specs.Boards.{none_row}
 use Rattle.bounds.specs.Scoped.{fits, names, gather}
+use Rattle.bounds.proofs.Named.{names_next}
 use Rattle.bounds.proofs.Scopes.{fits_at, gather_at}
 use Rattle.rule_families.specs.Marks.{MarksNamed}
 
@@ -15,22 +16,6 @@ cell_missing cs n i l m = elim (cases_Bool (fits cs n)) [
 ]
 
 -- one more name
-names_suc : (cs : List ℕ) (i c : ℕ) → i < length cs → names (take (suc i) cs) c ≡ (names (take i cs) c || eqb (get_or cs i 0) c)
-names_suc [] i c l = absurd (omega arith)
-names_suc (x ∷ cs) zero c l = one (eqb x c)
-  where
-    one : (b : Bool) → cond b true false ≡ (false || b)
-    one true = refl
-    one false = refl
-names_suc (x ∷ cs) (suc i) c l = ap (cond (eqb x c) true) (names_suc cs i c (omega arith)) ∙ past (eqb x c) (names (take i cs) c) (eqb (get_or cs i 0) c)
-  where
-    past : (b y z : Bool) → cond b true (y || z) ≡ (cond b true y || z)
-    past true y z = refl
-    past false y z = refl
-
-names_more : (cs : List ℕ) (i c : ℕ) → i < length cs → names (take (i + 1) cs) c ≡ (names (take i cs) c || eqb (get_or cs i 0) c)
-names_more cs i c l = let one : i + 1 ≡ suc i = omega arith in ap (λ k. names (take k cs) c) one ∙ names_suc cs i c l
-
 or_true : (x y z : Bool) → z ≡ true → true ≡ (x || (y || z))
 or_true true y z e = refl
 or_true false true z e = refl
@@ -45,9 +30,9 @@ pub marks_more : (cs : List ℕ) (i : ℕ) (p q : List Bool) → i < length cs �
     → MarksNamed (take (i + 1) cs) p (set q (get_or cs i 0) true)
 marks_more cs i p q l long fit h c k = elim (cases_eq (get_or cs i 0) c) [
   | inl e ↦ ap (λ (x : List Bool). get_or x c false) (ap (λ j. set q j true) e) ∙ get_or-set_same q c true false (omega arith)
-      ∙ or_true (get_or p c false) (names (take i cs) c) (eqb (get_or cs i 0) c) (eq-eqb (get_or cs i 0) c e) ∙ ap (λ b. get_or p c false || b) (sym (names_more cs i c l))
+      ∙ or_true (get_or p c false) (names (take i cs) c) (eqb (get_or cs i 0) c) (eq-eqb (get_or cs i 0) c e) ∙ ap (λ b. get_or p c false || b) (sym (names_next cs i c l))
   | inr n ↦ get_or-set_other q (get_or cs i 0) c true false (λ e. n (sym e)) ∙ h c k
-      ∙ or_false (get_or p c false) (names (take i cs) c) (eqb (get_or cs i 0) c) (ne_eqb (get_or cs i 0) c n) ∙ ap (λ b. get_or p c false || b) (sym (names_more cs i c l))
+      ∙ or_false (get_or p c false) (names (take i cs) c) (eqb (get_or cs i 0) c) (ne_eqb (get_or cs i 0) c n) ∙ ap (λ b. get_or p c false || b) (sym (names_next cs i c l))
 ]
 
 -- rows that differ at one of the named cells

@@ -1,5 +1,6 @@
 pub mod Compared
 pub mod Gathers
+pub mod Listing
 pub mod Few
 pub mod Rows
 pub mod Reached

@@ -1,11 +1,11 @@
 // Rules that name their cells one by one.
-ghost use Rattle.std.specs.Prelude.{◌≡◌, ◌≤◌, true, false, ◌≢◌, ◌⊎◌, length};
+ghost use Rattle.std.specs.Prelude.{◌≡◌, ◌≤◌, true, false, ◌≢◌, ◌⊎◌, length, take};
 ghost use Rattle.bounds.specs.Boards.{cells, sound, none_row};
 ghost use Rattle.bounds.specs.Exact.{exact};
 ghost use Rattle.bounds.specs.Laws.{Idempotent};
 ghost use Rattle.bounds.specs.Scoped.{Scoped, ScopedLaws, fits, gather, scatter, on_board};
 ghost use Rattle.rule_families.specs.Narrows.{Narrows};
-ghost use Rattle.rule_families.specs.Marks.{Marks, MarksNamed};
+ghost use Rattle.rule_families.specs.Marks.{Marks, MarksNamed, Lists};
 
 use bounds::row::Row;
 use bounds::scope::{Scope, distinct, fits, names};
@@ -74,6 +74,31 @@ fn mark_named<R: Scope>(rule: &R, marks: &mut [bool])
 {
     for i in 0..rule.arity() {
         marks[rule.cell(i)] = true;
+    }
+}
+
+// Lists the cells that the rule touches, on a board of so many cells, at the front of the room, if it has a place for each.
+#[tactic(auto, using(crate::proofs::Listing::lists_named))]
+pub fn list<R: Named>(rule: &R, cells: usize, room: &mut [usize]) -> Option<usize>
+    ensures { Lists (on_board (R.scoped rule.now)) cells room.new result }
+{
+    let arity = rule.arity();
+    if arity > room.len() {
+        return None;
+    }
+    if !fits(rule, cells) {
+        return Some(0);
+    }
+    list_named(rule, room);
+    Some(arity)
+}
+
+fn list_named<R: Scope>(rule: &R, room: &mut [usize])
+    requires { length (R.scope rule.now) ≤ length room.old }
+    ensures { take (length (R.scope rule.now)) room.new ≡ R.scope rule.now }
+{
+    for i in 0..rule.arity() {
+        room[i] = rule.cell(i);
     }
 }
 

@@ -90,6 +90,13 @@ impl<S: Numbered> Family for Rules<S> {
         }
     }
 
+    fn list(&self, rule: usize, cells: usize, room: &mut [usize]) -> Option<usize> {
+        match self.find(rule) {
+            Some(found) => named::list(&found, cells, room),
+            None => Some(0),
+        }
+    }
+
     fn is_idempotent(&self, rule: usize) -> bool {
         self.find(rule)
             .is_some_and(|found| named::is_idempotent(&found))

@@ -81,7 +81,7 @@ none_open a e k l =
 opens_cons : (r : Row) (a : List Row) → opens (r ∷ a) ≡ cond (ltb r.low r.high) 1 0 + opens a
 opens_cons r a = sum_by-cons (λ (x : Row). cond (ltb x.low x.high) 1 0) r a
 
-opens_inside : (a b : List Row) → Inside a b → opens a ≤ opens b
+pub opens_inside : (a b : List Row) → Inside a b → opens a ≤ opens b
 opens_inside [] [] h = omega arith
 opens_inside [] (y ∷ b) h = absurd h
 opens_inside (x ∷ a) [] h = absurd h
@@ -121,6 +121,12 @@ module _ (m : Meaning) where
     is_allowed = fills_inside p b a k.inside first.is_allowed;
     no_earlier = λ q pl f. first.no_earlier q pl (k.plans q pl f);
   }
+
+  -- what is found in rows that lost no plan is found in those before
+  pub searched_kept : (a b : List Row) (p q : List ℕ) (r : Bool) → Keeps m a b → length b ≡ length a → Searched m b p q r → Searched m a p q r
+  searched_kept a b p q true k e (first, back) =
+      subst (λ (j : ℕ). FirstIn m a (take j q) × (drop j q ≡ drop j p)) e (first_kept a b _ k first, back)
+  searched_kept a b p q false k e (none, same) = (λ x pl f. none x pl (k.plans x pl f), same)
 
 -- a level of the search: the rows that it began with, as they are before a settle, and as that leaves them
 module _ (m : Meaning) (laws : FiveLaws m) (b l a : List Row) (n : ℕ) (k : Keeps m b l) (e : length l ≡ length b) where
@@ -169,7 +175,7 @@ module _ (m : Meaning) (b a : List Row) (c : ℕ) (d : Node m b a c) where
   raised_narrower = raised_spread a c d.here lower
 
   -- only the rules that are listed with the cell may narrow the try, and what is left
-  module _ (laws : FiveLaws m) (w : Watchers) (at : Watching m (length b) w) where
+  module _ (laws : FiveLaws m) {C R : ℕ} (w : Watchers C R) (at : Watching m (length b) w) where
     pub fixed_asleep : Asleep m (fixed_at a c) (watching w c)
     fixed_asleep = stirs_listed m laws a c _ w (length b) at d.kept.still_sound d.len d.quiet (omega (arith, d.here, d.len)) fixed_sound
 

@@ -1,20 +1,23 @@
 // The first plan in a board, by a search that settles at every step.
-ghost use Rattle.std.specs.Prelude.{◌≡◌, ◌+◌, ◌*◌, ◌<◌, ◌≤◌, true, length, take, drop, position, slice_index_or};
-ghost use Rattle.bounds.specs.Boards.{sound, lows, none_row};
+ghost use Rattle.std.specs.Prelude.{◌≡◌, ◌+◌, ◌*◌, ◌%◌, ◌<◌, ◌≤◌, true, length, take, drop, position, slice_index_or};
+ghost use Rattle.bounds.specs.Boards.{cells, sound, lows, none_row};
 ghost use Rattle.board.specs.Calls.{Does};
 ghost use Rattle.board.specs.Held.{state};
 ghost use Rattle.settling.specs.Asleep.{Asleep};
+ghost use Rattle.settling.specs.Plans.{Still};
 ghost use Rattle.settling.specs.Watching.{Watching};
 ghost use Rattle.search.specs.Seeks.{event_of_seek, Memory, is_open, opens, fixed_at, raised_at, Searched};
 
 use board::board::Board;
 use board::refusal::Refusal;
 use bounds::row::Row;
-use rule_families::family::Family;
+use rule_families::family::{Family, MOST_RULES};
 use rule_sets::rule_set::RuleSet;
-use settling::settle::settle_from;
+use settling::settle::{settle_from, settle_rows};
 use settling::settled::Settled;
-use settling::watchers::{MOST_CELLS, Watchers};
+use settling::watchers::{
+    FEW_CELLS, FEW_RULES, MOST_CELLS, Room, SOME_CELLS, SOME_RULES, Watchers,
+};
 
 // Whether the board holds a plan: the first is then written at the front of the plan memory.
 // Scratch holds the board's rows and a level for each of its cells.
@@ -39,18 +42,88 @@ pub fn seek<F: Family>(
     }
     let (level, rest) = scratch.split_at_mut(cells);
     level.copy_from_slice(rows);
-    let watchers = Watchers::of(family, cells);
-    let pending = RuleSet::below(family.size());
-    let mut room = [Row::default(); MOST_CELLS];
-    let before = &mut room[..cells];
-    Ok(search(family, &watchers, &pending, before, level, plan, rest))
+    Ok(first_plan(family, level, plan, rest))
+}
+
+// Whether the level holds a plan. A first settle, which takes no table, may tell; the search takes the least that serves.
+fn first_plan<F: Family>(family: &F, level: &mut [Row], plan: &mut [u16], rest: &mut [Row]) -> bool
+    requires sound { sound level.old ≡ true }
+    requires few { length level.old ≤ 1024 }
+    requires counts { length level.old ≤ length plan.old }
+    requires room { opens level.old * length level.old ≤ length rest.old }
+    ensures { Searched (F.meaning family.now) level.old plan.old plan.new result }
+{
+    if let Settled::Void(_) = settle_rows(family, level) {
+        return false;
+    }
+    match first_open(level) {
+        None => {
+            write_lows(level, plan);
+            true
+        }
+        Some(_) => search_in_room(family, level, plan, rest),
+    }
+}
+
+fn search_in_room<F: Family>(
+    family: &F,
+    level: &mut [Row],
+    plan: &mut [u16],
+    rest: &mut [Row],
+) -> bool
+    requires sound { sound level.old ≡ true }
+    requires few { length level.old ≤ 1024 }
+    requires counts { length level.old ≤ length plan.old }
+    requires room { opens level.old * length level.old ≤ length rest.old }
+    requires still { Still (F.meaning family.now) (cells level.old) }
+    ensures { Searched (F.meaning family.now) level.old plan.old plan.new result }
+{
+    match Room::of(level.len(), family.size()) {
+        Room::Few => search_in::<F, FEW_CELLS, FEW_RULES>(family, level, plan, rest),
+        Room::Some => search_in::<F, SOME_CELLS, SOME_RULES>(family, level, plan, rest),
+        Room::Most => search_in::<F, MOST_CELLS, MOST_RULES>(family, level, plan, rest),
+    }
+}
+
+// Kept: not inlined, so that a search has no more on the stack than the room that it takes.
+#[inline(never)]
+fn search_in<F: Family, const CELLS: usize, const RULES: usize>(
+    family: &F,
+    level: &mut [Row],
+    plan: &mut [u16],
+    rest: &mut [Row],
+) -> bool
+    requires sound { sound level.old ≡ true }
+    requires few { length level.old ≤ 1024 }
+    requires counts { length level.old ≤ length plan.old }
+    requires room { opens level.old * length level.old ≤ length rest.old }
+    requires cells { length level.old ≤ CELLS }
+    requires rules { (F.meaning family.now).size ≤ RULES }
+    requires words { RULES % 64 ≡ 0 }
+    requires most { (CELLS ≤ 1024) × (RULES ≤ 4096) }
+    requires still { Still (F.meaning family.now) (cells level.old) }
+    ensures { Searched (F.meaning family.now) level.old plan.old plan.new result }
+{
+    let cells = level.len();
+    let watchers = Watchers::<CELLS, RULES>::of(family, cells);
+    let pending = RuleSet::none();
+    let mut room = [Row::default(); CELLS];
+    search(
+        family,
+        &watchers,
+        &pending,
+        &mut room[..cells],
+        level,
+        plan,
+        rest,
+    )
 }
 
 // Each try has a level of its own, at the front of the rest. After a settle only the rules that touch the cell branched on can narrow.
 // Kept: a plan that a try returned as a borrow could not be lent to the next try of the loop.
-fn search<'w, F: Family>(
+fn search<'w, F: Family, const CELLS: usize, const RULES: usize>(
     family: &F,
-    watchers: &'w Watchers,
+    watchers: &'w Watchers<CELLS, RULES>,
     mut pending: &'w RuleSet,
     before: &mut [Row],
     level: &mut [Row],

@@ -1,5 +1,6 @@
 pub mod Holds
 pub mod Applied
+pub mod Asks
 pub mod Lists
 pub mod Sleeps
 pub mod Words

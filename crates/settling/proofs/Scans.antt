@@ -40,7 +40,7 @@ module _ (m : Meaning) (laws : FiveLaws m) (a b : List Row) (n : ℕ) (p : RuleS
   pub scanned_narrower : n < spread a
   scanned_narrower = omega (arith, applied_narrower m laws s h.applied, spread_pos b)
 
-  module _ (w : Watchers) (at : Watching m (length a) w) where
+  module _ {C R : ℕ} (w : Watchers C R) (at : Watching m (length a) w) where
     is : Watching m (length b) w
     is = subst (λ (k : ℕ). Watching m k w) (sym h.long) at
 

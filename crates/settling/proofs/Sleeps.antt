@@ -32,7 +32,7 @@ module _ (m : Meaning) (laws : FiveLaws m) (a b : List Row) (q : ℕ) (s : sound
       (subst (λ (x : Board). Alike (m.rule q) x ((m.rule q).narrowed b)) quiet ((laws.each q).local_end a b s t e same))
 
 -- where no rule narrows the rows, another row in one cell may stir only the rules that are listed with it
-module _ (m : Meaning) (laws : FiveLaws m) (a : List Row) (c : ℕ) (x : Row) (w : Watchers) (n : ℕ) (at : Watching m n w) where
+module _ {C R : ℕ} (m : Meaning) (laws : FiveLaws m) (a : List Row) (c : ℕ) (x : Row) (w : Watchers C R) (n : ℕ) (at : Watching m n w) where
   pub stirs_listed : sound a ≡ true → length a ≡ n → Still m (cells a) → c < n → sound (set a c x) ≡ true → Asleep m (set a c x) (watching w c)
   stirs_listed s long quiet here t q l asleep =
       let e : length a ≡ length (set a c x) = sym (length-set a c x) in
@@ -43,7 +43,7 @@ module _ (m : Meaning) (laws : FiveLaws m) (a : List Row) (c : ℕ) (x : Row) (w
       ]) (quiet q l)
 
 -- a narrowing changes no cell whose bit the rule does not have
-module _ (m : Meaning) (laws : FiveLaws m) (w : Watchers) (a b : List Row) (r : ℕ) (at : Watching m (length a) w) where
+module _ {C R : ℕ} (m : Meaning) (laws : FiveLaws m) (w : Watchers C R) (a b : List Row) (r : ℕ) (at : Watching m (length a) w) where
   reached : (c : ℕ) → c < length a → (m.rule r).touches (length a) c ≡ true → bit_at (get_or w.reach r 0) (c % 64) ≡ 1
   reached c l touched = elim (cases_lt r m.size) [
     | inl k ↦ at.reach r k c l touched

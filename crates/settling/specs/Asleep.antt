@@ -1,5 +1,5 @@
 -- Which rules are pending: one that is not is quiet on the rows.
-use Rattle.std.specs.Prelude.{◌≡◌, ℕ, ◌+◌, ◌*◌, ◌%◌, ◌<◌, ◌≤◌, true, false, List, length, slice_index_or}
+use Rattle.std.specs.Prelude.{◌≡◌, ℕ, ◌+◌, ◌*◌, ◌%◌, ◌<◌, ◌≤◌, true, false, ◌≢◌, List, length, slice_index_or}
 use Rattle.std.specs.Int.{bit_at}
 use Rattle.bounds.specs.declared.row.Row.{Row}
 use Rattle.bounds.specs.Boards.{cells, none_row}
@@ -14,15 +14,27 @@ use Rattle.settling.specs.Watching.{watching}
 abbrev pub Asleep : Meaning → List Row → RuleSet → Type 0
 Asleep m a p = (q : ℕ) → q < m.size → has p q ≡ false → (m.rule q).narrowed a ≡ cells a
 
+-- rule q touches no cell of n below c that rule r touches
+abbrev pub Apart : Meaning → ℕ → ℕ → ℕ → ℕ → Type 0
+Apart m n c r q = (k : ℕ) → k < c → (m.rule r).touches n k ≡ true → (m.rule q).touches n k ≢ true
+
+-- a rule that is not pending after was not before, and does not touch the cell
+abbrev pub AskedAt : Meaning → ℕ → ℕ → RuleSet → RuleSet → Type 0
+AskedAt m n c p p' = (q : ℕ) → q < m.size → has p' q ≡ false → (has p q ≡ false) × ((m.rule q).touches n c ≡ false)
+
+-- and it touches none of the cells that rule r touches
+abbrev pub Asked : Meaning → ℕ → ℕ → RuleSet → RuleSet → Type 0
+Asked m n r p p' = (q : ℕ) → q < m.size → has p' q ≡ false → (has p q ≡ false) × Apart m n n r q
+
 -- of the cells of which P holds, those that are listed with the rule have the same row
-abbrev pub Unstirred : Watchers → (ℕ → Type 0) → List Row → List Row → ℕ → Type 0
+abbrev pub Unstirred : {C R : ℕ} → Watchers C R → (ℕ → Type 0) → List Row → List Row → ℕ → Type 0
 Unstirred w P a b q = (c : ℕ) → c < length b → P c → has (watching w c) q ≡ true → slice_index_or a c none_row ≡ slice_index_or b c none_row
 
 -- a rule that is not pending after was not before, and of the cells of which P holds none changed that is listed with it
-abbrev pub WokenAmong : Watchers → (ℕ → Type 0) → List Row → List Row → RuleSet → RuleSet → Type 0
+abbrev pub WokenAmong : {C R : ℕ} → Watchers C R → (ℕ → Type 0) → List Row → List Row → RuleSet → RuleSet → Type 0
 WokenAmong w P a b p p' = (q : ℕ) → q < 64 * w.words → has p' q ≡ false → (has p q ≡ false) × Unstirred w P a b q
 
-abbrev pub Woken : Watchers → List Row → List Row → RuleSet → RuleSet → Type 0
+abbrev pub Woken : {C R : ℕ} → Watchers C R → List Row → List Row → RuleSet → RuleSet → Type 0
 Woken w a b p p' = WokenAmong w (λ _. Unit {0}) a b p p'
 
 -- the rows a took over those of b in the cells of which P holds
@@ -40,7 +52,7 @@ abbrev pub SameOutside : ℕ → List Row → List Row → Type 0
 SameOutside word a b = (c : ℕ) → c < length b → bit_at word (c % 64) ≡ 0 → slice_index_or a c none_row ≡ slice_index_or b c none_row
 
 -- what a rule's answer makes of the pending rules
-abbrev pub Marked : Watchers → ℕ → List Row → List Row → RuleSet → RuleSet → Change → Type 0
+abbrev pub Marked : {C R : ℕ} → Watchers C R → ℕ → List Row → List Row → RuleSet → RuleSet → Change → Type 0
 Marked w r a b p p' Quiet = Removed p r p'
 Marked w r a b p p' Narrowed = Woken w a b p p'
 Marked w r a b p p' Void = p' ≡ p

@@ -1,4 +1,4 @@
-use Rattle.std.proofs.Common.{ℕ, List, length, drop, sym, refl, ap, ◌∙◌, subst, arith}
+use Rattle.std.proofs.Common.{ℕ, List, length, drop, sym, refl, ap, ◌∙◌, subst, arith, rules}
 use Rattle.bounds.specs.declared.row.Row.{Row}
 use Rattle.bounds.specs.Boards.{sound, spread}
 use Rattle.settling.specs.Asleep.{Asleep}
@@ -39,24 +39,34 @@ pub search-requires : goal.search-requires
 search-requires g t c κs within =
     let d = at-cell g t (goal.at.search-requires g t c).In-Some in
     let is = c.branch-level.ensures.tried in
+    let at = c.requires.watching in
     let n = ap length is ∙ fixed_length _ _ _ _ d in (
       omega (arith, ap spread is, fixed_narrower _ _ _ _ d, c.decreases),
       (
         within,
         (
-          ap sound is ∙ fixed_sound _ _ _ _ d,
+          search rules,
           (
-            omega arith,
+            search rules,
             (
-              omega arith,
+              omega (arith, at.room_cells, at.room_rules),
               (
-                rw (n, is) (omega (arith, tried_room _ _ _ _ d (length c.loop-level.rest) (omega arith))),
+                ap sound is ∙ fixed_sound _ _ _ _ d,
                 (
-                  subst (λ (k : ℕ). Watching (g.F.Family.meaning c.args.family.now) k c.args.watchers.now) (sym n) c.requires.watching,
+                  omega arith,
                   (
-                    subst (λ (x : List Row). Asleep (g.F.Family.meaning c.args.family.now) x (watching c.args.watchers.now c.in-Some.cell)) (sym is)
-                        (fixed_asleep _ _ _ _ d (g.F.Family.lawful c.args.family.now) _ c.requires.watching),
-                    omega (arith, c.requires.before),
+                    omega arith,
+                    (
+                      rw (n, is) (omega (arith, tried_room _ _ _ _ d (length c.loop-level.rest) (omega arith))),
+                      (
+                        subst (λ (k : ℕ). Watching (g.F.Family.meaning c.args.family.now) k c.args.watchers.now) (sym n) at,
+                        (
+                          subst (λ (x : List Row). Asleep (g.F.Family.meaning c.args.family.now) x (watching c.args.watchers.now c.in-Some.cell)) (sym is)
+                              (fixed_asleep _ _ _ _ d (g.F.Family.lawful c.args.family.now) _ at),
+                          omega (arith, c.requires.before),
+                        ),
+                      ),
+                    ),
                   ),
                 ),
               ),

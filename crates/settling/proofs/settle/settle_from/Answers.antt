@@ -1,14 +1,27 @@
-use Rattle.std.proofs.Common.{refl, arith}
+use Rattle.std.proofs.Common.{refl, sym, subst, arith}
 use Rattle.std.proofs.lemmas.Option.{none-some}
 use Rattle.settling.proofs.Scans.{scanned_sound, scanned_narrower, scan_ends, scan_voids, scan_quiet, scan_narrows}
 use Rattle.settling.proofs.settle.settle_from.Goals as goal
 use Rattle.settling.specs.Plans.{stay}
+use Rattle.settling.specs.Watching.{Watching}
 
 pub scan-init : goal.scan-init
 scan-init g c = record { applied = stay; asleep = c.requires.asleep; rests = λ q e. absurd (none-some q e); seen = c.copy_from_slice.ensures.after; long = refl }
 
-pub apply-requires-clause-sound : goal.apply-requires-clause-sound
-apply-requires-clause-sound g c = scanned_sound _ (g.F.Family.lawful c.args.family.now) _ _ _ _ _ _ c.requires.sound c.loop-rule.invariant
+pub apply-requires : goal.apply-requires
+apply-requires g c = let at = c.requires.watching in let k = c.loop-rule.invariant in let r = c.in-Some.ensures.1 in (
+  omega (arith, at.room_cells, at.room_rules),
+  (
+    scanned_sound _ (g.F.Family.lawful c.args.family.now) _ _ _ _ _ _ c.requires.sound k,
+    (
+      omega (arith, k.long),
+      (
+        (omega (arith, at.few, r), omega (arith, at.rules, r)),
+        (subst (λ n. Watching (g.F.Family.meaning c.args.family.now) n c.args.watchers.now) (sym k.long) at, k.seen),
+      ),
+    ),
+  ),
+)
 
 pub loop-rule-preserved : goal.loop-rule-preserved
 loop-rule-preserved g c =

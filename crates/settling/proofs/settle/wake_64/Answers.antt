@@ -7,7 +7,7 @@ use Rattle.settling.proofs.settle.wake_64.Goals as goal
 use Rattle.settling.proofs.settle.wake_64.Goals.{then-cell-rows, else-cell-rows}
 
 pub loop-bit-preserved : goal.loop-bit-preserved
-loop-bit-preserved c =
+loop-bit-preserved g c =
     let w = c.args.watchers.now in
     let a = c.args.before.now in
     let b = c.args.rows.now in

@@ -8,7 +8,11 @@ loop-rule-init g c =
     no_rules_yet (g.F.Family.meaning c.args.family.now) c.args.cells _ (record {
       room = omega (arith, c.div_ceil.ensures, c.size.ensures);
       few = omega (arith, c.div_ceil.ensures, c.size.ensures, few);
-      listed = none_listed (g.F.Family.meaning c.args.family.now) c.args.cells c.none.result c.idempotent_rules.result c.div_ceil.result (replicate 4096 0) c.requires c.none.ensures;
+      cells = c.requires.cells;
+      rules = omega (arith, c.div_ceil.ensures, c.size.ensures, c.requires.rules, c.requires.words);
+      room_cells = c.requires.room.0;
+      room_rules = c.requires.room.1;
+      listed = none_listed g.row.CELLS g.row.RULES (g.F.Family.meaning c.args.family.now) c.args.cells c.none.result c.idempotent_rules.result c.div_ceil.result (replicate g.row.RULES 0) c.requires.cells c.none.ensures;
       reach = λ q l. absurd (omega arith);
       known = c.idempotent_rules.ensures;
     })

@@ -2,7 +2,7 @@ use Rattle.std.proofs.Common.{◌≡◌, ℕ, ◌%◌, ◌<◌, ◌≤◌, true,
 use Rattle.std.specs.Int.{bit_at}
 use Rattle.rule_sets.specs.Members.{has}
 use Rattle.settling.specs.Watching.{watching}
-use Rattle.settling.proofs.watchers.Watchers.list.Given as goal
+use Rattle.settling.proofs.watchers.Watchers.list_marked.Given as goal
 
 abbrev pub invariant-loop-cell : goal.invariant-loop-cell
 invariant-loop-cell g l =
