@@ -1,5 +1,5 @@
 -- How far a scan has come that asks which rules it wakes, and what a settle that goes on from there has settled.
-use Rattle.std.proofs.Common.{◌≡◌, ℕ, ◌+◌, ◌*◌, ◌<◌, ◌≤◌, true, ◌≢◌, List, length, Option, Some, None, sym, refl, ap, ◌∙◌, subst, inl, inr, arith}
+use Rattle.std.proofs.Common.{◌≡◌, ℕ, ◌+◌, ◌*◌, ◌<◌, ◌≤◌, true, ◌≢◌, List, length, Some, None, sym, refl, ap, ◌∙◌, subst, inl, inr, arith}
 use Rattle.std.proofs.lemmas.Bool.{cases_Bool, cases_eq, cases_lt}
 use Rattle.bounds.specs.declared.row.Row.{Row}
 use Rattle.bounds.specs.Boards.{cells, sound, Real, spread}
@@ -11,8 +11,8 @@ use Rattle.rule_sets.specs.declared.rule_set.RuleSet.{RuleSet}
 use Rattle.rule_sets.specs.Members.{Removed, Lowest as LowestOf}
 use Rattle.settling.specs.declared.settled.Settled.{Settled}
 use Rattle.settling.specs.declared.settled.Settled.TheVariants.{Settled as Ended, Void as Emptied}
-use Rattle.settling.specs.Asleep.{Asleep, Asked}
-use Rattle.settling.specs.Plans.{Applies, Lowest, stay, more}
+use Rattle.settling.specs.Asleep.{Asked}
+use Rattle.settling.specs.Plans.{Applies, stay, more}
 use Rattle.settling.specs.Settles.{Settles, Begun, later}
 use Rattle.settling.proofs.Applied.{QuietBelow, lowest_narrows, lowest_voids, applied_keeps, applied_narrower}
 use Rattle.settling.proofs.Sleeps.{stays_quiet}

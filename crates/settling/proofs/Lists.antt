@@ -1,5 +1,5 @@
 -- At first no rule is listed.
-use Rattle.std.proofs.Common.{◌≡◌, ℕ, Some, true, Bool, ◌||◌, eqb, length, get_or, set, take, refl, ◌<◌, ◌≤◌, ◌+◌, ◌%◌, replicate, ◌≢◌, List, ◌&&◌, false, ltb, lt-ltb, sym, ap, ◌∙◌, subst, inl, inr, arith}
+use Rattle.std.proofs.Common.{◌≡◌, ℕ, Some, true, Bool, ◌||◌, length, get_or, set, take, refl, ◌<◌, ◌≤◌, ◌+◌, ◌%◌, replicate, ◌≢◌, List, ◌&&◌, false, ltb, lt-ltb, sym, ap, ◌∙◌, subst, inl, inr, arith}
 use Rattle.std.proofs.lemmas.Bool.{cases_Bool, cases_eq, cases_lt, ltb-true, le-ltb, true≢false, eq-eqb, ne_eqb}
 use Rattle.bounds.specs.Laws.{Meaning, Idempotent}
 use Rattle.bounds.specs.Scoped.{names}

@@ -1,4 +1,4 @@
-use Rattle.std.proofs.Common.{drop, length, refl, sym, ap, mul-le-mul_right, subst, ◌*◌, ◌≤◌, ℕ, arith}
+use Rattle.std.proofs.Common.{length, refl, sym, mul-le-mul_right, subst, ◌*◌, ◌≤◌, ℕ, arith}
 use Rattle.settling.proofs.Applied.{applied_keeps}
 use Rattle.search.specs.Seeks.{opens}
 use Rattle.search.proofs.Tries.{keeps_same, none_voided, leaf_found, searched_kept, opens_inside}

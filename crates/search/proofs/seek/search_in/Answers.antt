@@ -1,5 +1,4 @@
-use Rattle.std.proofs.Common.{ltb, lt-ltb, replicate, length, sym, ap, ◌∙◌, arith}
-use Rattle.std.proofs.lemmas.Bool.{true≢false}
+use Rattle.std.proofs.Common.{replicate, length, arith}
 use Rattle.std.proofs.lemmas.List.{length-take-le, length-replicate}
 use Rattle.search.proofs.seek.search_in.Goals as goal
 

@@ -1,4 +1,4 @@
-use Rattle.std.proofs.Common.{◌≡◌, ℕ, ltb, ◌*◌, ◌≤◌, List, length, sym, ap, ◌∙◌, subst, mul-le-mul_right, add-mul, arith}
+use Rattle.std.proofs.Common.{◌≡◌, ltb, ◌*◌, ◌≤◌, List, length, sym, ap, ◌∙◌, subst, mul-le-mul_right, add-mul, arith}
 use Rattle.bounds.specs.declared.row.Row.{Row}
 use Rattle.bounds.specs.Boards.{sound}
 use Rattle.search.specs.Seeks.{opens}

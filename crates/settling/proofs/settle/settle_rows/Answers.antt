@@ -1,4 +1,4 @@
-use Rattle.std.proofs.Common.{sym, subst, arith}
+use Rattle.std.proofs.Common.{sym, subst}
 use Rattle.settling.specs.declared.settled.Settled.{Settled}
 use Rattle.settling.specs.Settles.{Settles}
 use Rattle.settling.proofs.Asks.{begun_sound, settles_on}

@@ -1,4 +1,4 @@
-use Rattle.std.proofs.Common.{◌≡◌, ℕ, ◌<◌, true, false}
+use Rattle.std.proofs.Common.{◌≡◌, ℕ, ◌<◌, false}
 use Rattle.rule_sets.specs.Members.{has}
 use Rattle.settling.proofs.settle.wake_touching.Given as goal
 
