@@ -1,5 +1,5 @@
 // Triples: union, intersection, union-plus of three cells, and subset of two.
-ghost use Rattle.std.specs.Prelude.{◌≡◌, ◌+◌, Some, None, MatchResult};
+ghost use Rattle.std.specs.Prelude.{◌≡◌, ◌+◌, ◌≤◌, Some, None, MatchResult};
 ghost use Rattle.records.specs.Bytes.{number};
 ghost use Rattle.records.specs.Forms.{triples_form};
 ghost use Rattle.records.specs.Kinds.{triple_kind, tied};
@@ -58,6 +58,15 @@ pub struct TripleRecord {
 
 pub struct Triples;
 
+// One number of the record.
+// Kept: by its two bytes, with no call where the file ends, so that numbers which are asked for again are read once.
+fn field(at: Spot<'_>, offset: usize) -> u16
+    requires { offset ≤ 6 }
+    ensures { result ≡ number 2 at.entry.bytes.now (at.entry.place + offset) }
+{
+    u16::from(at.u8(offset)) + 256 * u16::from(at.u8(offset + 1))
+}
+
 impl BodyKind for Triples {
     type Record = TripleRecord;
 
@@ -73,10 +82,10 @@ impl BodyKind for Triples {
 
     fn read(at: Spot<'_>) -> TripleRecord {
         TripleRecord {
-            kind: at.u16(0),
-            a: at.u16(2),
-            b: at.u16(4),
-            c: at.u16(6),
+            kind: field(at, 0),
+            a: field(at, 2),
+            b: field(at, 4),
+            c: field(at, 6),
         }
     }
 
@@ -85,8 +94,8 @@ impl BodyKind for Triples {
     }
 
     fn keeps_limits(at: Spot<'_>) -> bool {
-        match TripleKind::try_from(at.u16(0)) {
-            Ok(TripleKind::Subset) => at.u16(6) == NO_CELL,
+        match TripleKind::try_from(field(at, 0)) {
+            Ok(TripleKind::Subset) => field(at, 6) == NO_CELL,
             Ok(_) => true,
             Err(Unknown) => false,
         }
@@ -94,7 +103,7 @@ impl BodyKind for Triples {
 
     #[tactic(auto, using(crate::proofs::Tied::names_tied, crate::proofs::Tied::names_three))]
     fn arity(at: Spot<'_>) -> usize {
-        match TripleKind::try_from(at.u16(0)) {
+        match TripleKind::try_from(field(at, 0)) {
             Ok(kind) => kind.arity(),
             Err(Unknown) => 3,
         }
@@ -103,9 +112,9 @@ impl BodyKind for Triples {
     // Kept: one number is read and not the record, which would be read anew for each cell.
     fn name(at: Spot<'_>, index: usize) -> u16 {
         match index {
-            0 => at.u16(2),
-            1 => at.u16(4),
-            2 if Self::arity(at) == 3 => at.u16(6),
+            0 => field(at, 2),
+            1 => field(at, 4),
+            2 if Self::arity(at) == 3 => field(at, 6),
             _ => 0,
         }
     }
