@@ -2,7 +2,8 @@
 
 Lists, by crate and name, the lemmas, records and abbreviations of OLD whose text stands nowhere under that name in
 NEW: changed where the name still stands in the same crate, gone where it does not. The parameters of the modules
-around a statement are a part of its text; answers and invariants, which state nothing of their own, are left out.
+around a statement are a part of its text; answers and invariants, which state nothing of their own, are left out. A
+statement that was public and stands nowhere as a public one is listed as private.
 """
 
 import glob
@@ -58,21 +59,23 @@ def statements(path):
                 continue
             whole = "record" if "record" in head else "abbrev" if "abbrev" in head else ""
             around = " ".join(text for _, text in modules)
-            yield name, one_line(f"{around} |- {mark}{rest} {block(lines, at, indent(line), whole)}")
+            yield name, one_line(f"{around} |- {mark}{rest} {block(lines, at, indent(line), whole)}"), "pub " in head
 
 
 def read(root):
-    found = {}
+    found, public = {}, set()
     for path in sorted(glob.glob(root + "/crates/*/proofs/**/*.antt", recursive=True)):
         if os.path.basename(path) not in NOT_STATED:
             crate = os.path.relpath(path, root).split("/")[1]
-            for name, text in statements(path):
+            for name, text, is_public in statements(path):
                 found.setdefault((crate, name), []).append(text)
-    return found
+                if is_public:
+                    public.add((name, text))
+    return found, public
 
 
 def main():
-    old, new = read(sys.argv[1]), read(sys.argv[2])
+    (old, were_public), (new, are_public) = read(sys.argv[1]), read(sys.argv[2])
     anywhere = {(name, text) for (_, name), texts in new.items() for text in texts}
     went = [(key, text) for key, texts in sorted(old.items()) for text in texts if (key[1], text) not in anywhere]
     kept = sum(len(texts) for texts in old.values()) - len(went)
@@ -83,6 +86,8 @@ def main():
         print("  old", text)
         for now in new.get(key, []):
             print("  new", now)
+    for name, _ in sorted((were_public & anywhere) - are_public):
+        print("private", name)
 
 
 main()
