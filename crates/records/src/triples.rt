@@ -5,7 +5,7 @@ ghost use Rattle.records.specs.Forms.{triples_form};
 ghost use Rattle.records.specs.Kinds.{triple_kind, tied};
 
 use crate::body::BodyKind;
-use crate::bytes::Spot;
+use crate::bytes::{Spot, byte_at};
 use crate::kind::{Kind, Unknown};
 
 const NO_CELL: u16 = 65535;
@@ -59,12 +59,16 @@ pub struct TripleRecord {
 pub struct Triples;
 
 // One number of the record.
-// Kept: by its two bytes, with no call where the file ends, so that numbers which are asked for again are read once.
+// Kept: by places in the file, which the compiler compares with the record's end once, and not within what is left of it.
 fn field(at: Spot<'_>, offset: usize) -> u16
     requires { offset ≤ 6 }
     ensures { result ≡ number 2 at.entry.bytes.now (at.entry.place + offset) }
 {
-    u16::from(at.u8(offset)) + 256 * u16::from(at.u8(offset + 1))
+    if at.place >= at.bytes.len() {
+        return 0;
+    }
+    let place = at.place + offset;
+    u16::from(byte_at(at.bytes, place)) + 256 * u16::from(byte_at(at.bytes, place + 1))
 }
 
 impl BodyKind for Triples {
