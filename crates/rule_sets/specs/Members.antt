@@ -46,6 +46,14 @@ pub record WithoutBit (n k m : ℕ) : Type 0 where
 abbrev pub United : RuleSet → RuleSet → ℕ → RuleSet → Type 0
 United s o words t = (r : ℕ) → has t r ≡ (has s r || (nat_lt r (64 * words) && has o r))
 
+-- of the rules of one word, those whose bits are set
+abbrev pub UnitedWord : RuleSet → ℕ → ℕ → RuleSet → Type 0
+UnitedWord s word bits t = (r : ℕ) → has t r ≡ (has s r || ((r / 64 == word) && (bit_at bits (r % 64) == 1)))
+
+-- no rule below so many words
+abbrev pub NoneBelow : RuleSet → ℕ → Type 0
+NoneBelow s words = (r : ℕ) → r < 64 * words → has s r ≡ false
+
 abbrev pub Lowest : RuleSet → ℕ → Option ℕ → Type 0
 Lowest s words None = (r : ℕ) → r < 64 * words → has s r ≡ false
 Lowest s words (Some r) = (has s r ≡ true) × (r < 64 * words) × ((q : ℕ) → q < r → has s q ≡ false)

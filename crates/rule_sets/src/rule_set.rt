@@ -1,6 +1,6 @@
 // Sets of rules.
-ghost use Rattle.std.specs.Prelude.{◌≡◌, ◌<◌, ◌≤◌, take, position};
-ghost use Rattle.rule_sets.specs.Members.{has, some_rule, Empty, Below, Inserted, Removed, WithBit, WithoutBit, United, Lowest, LowestBit};
+ghost use Rattle.std.specs.Prelude.{◌≡◌, ◌<◌, ◌≤◌, position};
+ghost use Rattle.rule_sets.specs.Members.{has, some_rule, Empty, Below, Inserted, Removed, WithBit, WithoutBit, United, UnitedWord, NoneBelow, Lowest, LowestBit};
 
 use rule_families::family::MOST_RULES;
 
@@ -69,21 +69,40 @@ impl RuleSet {
         }
     }
 
+    // Adds the rules of one word whose bits are set.
+    #[tactic(auto, using(crate::proofs::Bits::united_word))]
+    pub fn unite_word(&mut self, word: usize, bits: u64)
+        requires { word < 64 }
+        ensures { UnitedWord self.old word bits self.new }
+    {
+        self.words[word] |= bits;
+    }
+
     // The lowest of the rules that are below so many words.
     pub fn first(&self, words: usize) -> Option<usize>
         requires { words ≤ 64 }
         ensures { Lowest self.now words result }
     {
-        let word = self.first_word(words)?;
-        Some(64 * word + self.words[word].trailing_zeros() as usize)
+        self.first_past(0, words)
     }
 
-    fn first_word(&self, words: usize) -> Option<usize>
-        requires { words ≤ 64 }
-        ensures { result ≡ position some_rule (take words self.now.words) }
+    // The same, where so many words were passed and have no rule.
+    pub fn first_past(&self, passed: usize, words: usize) -> Option<usize>
+        requires words { (passed ≤ words) × (words ≤ 64) }
+        requires passed { NoneBelow self.now passed }
+        ensures { Lowest self.now words result }
     {
-        self.words[..words].iter().position(|word| *word != 0)
+        let more = first_with_rules(&self.words[passed..words])?;
+        let word = passed + more;
+        Some(64 * word + self.words[word].trailing_zeros() as usize)
     }
+}
+
+// The first word that has a rule.
+fn first_with_rules(words: &[u64]) -> Option<usize>
+    ensures { result ≡ position some_rule words.now }
+{
+    words.iter().position(|word| *word != 0)
 }
 
 // Words are sets of the numbers below 64 in the same way.

@@ -13,8 +13,8 @@ use Rattle.bounds.proofs.Places.{low_at, high_at, same_row, sound_at, fills_at, 
 use Rattle.bounds.proofs.Rows.{fills_lows, inside_all, cut, fills_cut, cut_fills, sound_set, spread_inside}
 use Rattle.settling.specs.declared.settled.Settled.TheVariants.{Settled, Void}
 use Rattle.settling.specs.declared.watchers.Watchers.{Watchers}
-use Rattle.settling.specs.Asleep.{Asleep}
-use Rattle.settling.specs.Watching.{Watching, watching}
+use Rattle.settling.specs.Asleep.{AsleepBut}
+use Rattle.settling.specs.Watching.{Watching}
 use Rattle.settling.specs.Plans.{First, Before, NoPlan, Still}
 use Rattle.settling.proofs.Sleeps.{stirs_listed}
 use Rattle.settling.specs.Settles.{Settles}
@@ -176,10 +176,10 @@ module _ (m : Meaning) (b a : List Row) (c : ℕ) (d : Node m b a c) where
 
   -- only the rules that are listed with the cell may narrow the try, and what is left
   module _ (laws : FiveLaws m) {C R : ℕ} (w : Watchers C R) (at : Watching m (length b) w) where
-    pub fixed_asleep : Asleep m (fixed_at a c) (watching w c)
+    pub fixed_asleep : AsleepBut m w (Some c) (fixed_at a c)
     fixed_asleep = stirs_listed m laws a c _ w (length b) at d.kept.still_sound d.len d.quiet (omega (arith, d.here, d.len)) fixed_sound
 
-    pub raised_asleep : Asleep m (raised_at a c) (watching w c)
+    pub raised_asleep : AsleepBut m w (Some c) (raised_at a c)
     raised_asleep = let o = lower in
         stirs_listed m laws a c _ w (length b) at d.kept.still_sound d.len d.quiet (omega (arith, d.here, d.len)) (sound_set a c _ d.kept.still_sound (omega arith))
 

@@ -3,7 +3,7 @@ ghost use Rattle.std.specs.Prelude.{◌≡◌, ◌+◌, ◌*◌, ◌%◌, ◌<�
 ghost use Rattle.bounds.specs.Boards.{cells, sound, lows, none_row};
 ghost use Rattle.board.specs.Calls.{Does};
 ghost use Rattle.board.specs.Held.{state};
-ghost use Rattle.settling.specs.Asleep.{Asleep};
+ghost use Rattle.settling.specs.Asleep.{AsleepBut};
 ghost use Rattle.settling.specs.Plans.{Still};
 ghost use Rattle.settling.specs.Watching.{Watching};
 ghost use Rattle.search.specs.Seeks.{event_of_seek, Memory, is_open, opens, fixed_at, raised_at, Searched};
@@ -12,8 +12,7 @@ use board::board::Board;
 use board::refusal::Refusal;
 use bounds::row::Row;
 use rule_families::family::{Family, MOST_RULES};
-use rule_sets::rule_set::RuleSet;
-use settling::settle::{settle_from, settle_rows};
+use settling::settle::{settle_rows, settle_stirred};
 use settling::settled::Settled;
 use settling::watchers::{
     FEW_CELLS, FEW_RULES, MOST_CELLS, Room, SOME_CELLS, SOME_RULES, Watchers,
@@ -105,13 +104,13 @@ fn search_in<F: Family, const CELLS: usize, const RULES: usize>(
     ensures { Searched (F.meaning family.now) level.old plan.old plan.new result }
 {
     let cells = level.len();
-    let watchers = Watchers::<CELLS, RULES>::of(family, cells);
-    let pending = RuleSet::none();
+    let mut watchers = Watchers::<CELLS, RULES>::none(family);
+    watchers.list_all(family, cells);
     let mut room = [Row::default(); CELLS];
     search(
         family,
         &watchers,
-        &pending,
+        None,
         &mut room[..cells],
         level,
         plan,
@@ -121,10 +120,10 @@ fn search_in<F: Family, const CELLS: usize, const RULES: usize>(
 
 // Each try has a level of its own, at the front of the rest. After a settle only the rules that touch the cell branched on can narrow.
 // Kept: a plan that a try returned as a borrow could not be lent to the next try of the loop.
-fn search<'w, F: Family, const CELLS: usize, const RULES: usize>(
+fn search<F: Family, const CELLS: usize, const RULES: usize>(
     family: &F,
-    watchers: &'w Watchers<CELLS, RULES>,
-    mut pending: &'w RuleSet,
+    watchers: &Watchers<CELLS, RULES>,
+    mut stirred: Option<usize>,
     before: &mut [Row],
     level: &mut [Row],
     plan: &mut [u16],
@@ -135,13 +134,13 @@ fn search<'w, F: Family, const CELLS: usize, const RULES: usize>(
     requires counts { length level.old ≤ length plan.old }
     requires room { opens level.old * length level.old ≤ length rest.old }
     requires watching { Watching (F.meaning family.now) (length level.old) watchers.now }
-    requires asleep { Asleep (F.meaning family.now) level.old pending.now }
+    requires asleep { AsleepBut (F.meaning family.now) watchers.now stirred level.old }
     requires before { length before.old ≡ length level.old }
     ensures { Searched (F.meaning family.now) level.old plan.old plan.new result }
 {
     let cells = level.len();
     loop {
-        if let Settled::Void(_) = settle_from(family, watchers, pending, before, level) {
+        if let Settled::Void(_) = settle_stirred(family, watchers, stirred, before, level) {
             return false;
         }
         let Some(cell) = first_open(level) else {
@@ -150,8 +149,8 @@ fn search<'w, F: Family, const CELLS: usize, const RULES: usize>(
         };
         let (tried, deeper) = rest.split_at_mut(cells);
         branch(level, cell, tried);
-        pending = &watchers.by_cell[cell];
-        if search(family, watchers, pending, before, tried, plan, deeper) {
+        stirred = Some(cell);
+        if search(family, watchers, stirred, before, tried, plan, deeper) {
             return true;
         }
     }

@@ -1,5 +1,5 @@
 -- How far the scan over the pending rules has come.
-use Rattle.std.proofs.Common.{◌≡◌, ℕ, ◌+◌, ◌<◌, ◌≤◌, true, ◌≢◌, List, length, Option, Some, None, sym, refl, lt-ltb, ap, ◌∙◌, subst, inl, inr, arith}
+use Rattle.std.proofs.Common.{◌≡◌, ℕ, ◌+◌, ◌<◌, ◌≤◌, true, ◌≢◌, List, length, Option, Some, None, sym, refl, ap, ◌∙◌, subst, inl, inr, arith}
 use Rattle.std.proofs.lemmas.Bool.{cases_eq, cases_lt}
 use Rattle.std.proofs.lemmas.Option.{none-some}
 use Rattle.bounds.specs.declared.row.Row.{Row}
@@ -17,7 +17,7 @@ use Rattle.settling.specs.Plans.{Applies, more}
 use Rattle.settling.specs.Settles.{Settles}
 use Rattle.settling.specs.Watching.{Watching, Rests}
 use Rattle.settling.proofs.Applied.{QuietBelow, lowest_narrows, lowest_voids, applied_keeps, applied_narrower}
-use Rattle.settling.proofs.Sleeps.{both, stays_quiet}
+use Rattle.settling.proofs.Sleeps.{stays_quiet}
 
 -- n applications led from the rows a to b, which are as they were when rules were last woken, and a rule that is not pending
 -- or is resting is quiet there
@@ -107,7 +107,7 @@ module _ (m : Meaning) (laws : FiveLaws m) (a b : List Row) (n : ℕ) (p : RuleS
               asleep = λ q k no.
                   let (was, unstirred) = woken q (omega (arith, is.room)) no in
                   stays_quiet m laws b c q scanned_sound t (sym long)
-                  (λ i j touched. unstirred i (omega arith) tt (is.listed i q j ∙ both _ _ (lt-ltb q m.size k) touched))
+                  (λ i j touched. unstirred i (omega arith) tt (is.listed i q j k touched))
                   (h.asleep q k was);
               rests = resting_now o' rest narrows;
               seen = seen;

@@ -1,5 +1,5 @@
 -- A quiet rule stays quiet where no cell that it touches changes.
-use Rattle.std.proofs.Common.{◌≡◌, ℕ, ◌%◌, ◌<◌, ◌&&◌, Bool, true, List, length, get_or, set, lt-ltb, length-set, sym, refl, ap, ◌∙◌, subst, inl, inr, arith}
+use Rattle.std.proofs.Common.{◌≡◌, ℕ, ◌%◌, ◌<◌, ◌&&◌, Bool, true, List, Some, length, get_or, set, length-set, sym, refl, ap, ◌∙◌, subst, inl, inr, arith}
 use Rattle.std.specs.Int.{bit_at}
 use Rattle.std.proofs.lemmas.Bool.{cases_Bool, cases_eq, cases_lt, true≢false}
 use Rattle.std.proofs.lemmas.List.{get_or-set_other}
@@ -7,9 +7,9 @@ use Rattle.bounds.specs.declared.row.Row.{Row}
 use Rattle.bounds.specs.Boards.{Board, void, cells, sound, Within, none_row}
 use Rattle.bounds.specs.Laws.{Meaning, FiveLaws, Rule, Touched, Alike}
 use Rattle.settling.specs.declared.watchers.Watchers.{Watchers}
-use Rattle.settling.specs.Asleep.{Asleep, SameOutside}
+use Rattle.settling.specs.Asleep.{AsleepBut, SameOutside}
 use Rattle.settling.specs.Plans.{Still}
-use Rattle.settling.specs.Watching.{Watching, watching}
+use Rattle.settling.specs.Watching.{Watching}
 use Rattle.bounds.proofs.Rows.{inside_length}
 use Rattle.bounds.proofs.Places.{same_rows}
 
@@ -33,14 +33,16 @@ module _ (m : Meaning) (laws : FiveLaws m) (a b : List Row) (q : ℕ) (s : sound
 
 -- where no rule narrows the rows, another row in one cell may stir only the rules that are listed with it
 module _ {C R : ℕ} (m : Meaning) (laws : FiveLaws m) (a : List Row) (c : ℕ) (x : Row) (w : Watchers C R) (n : ℕ) (at : Watching m n w) where
-  pub stirs_listed : sound a ≡ true → length a ≡ n → Still m (cells a) → c < n → sound (set a c x) ≡ true → Asleep m (set a c x) (watching w c)
-  stirs_listed s long quiet here t q l asleep =
-      let e : length a ≡ length (set a c x) = sym (length-set a c x) in
-      stays_quiet m laws a (set a c x) q s t e (λ k i touched. elim (cases_eq k c) [
-        | inl is ↦ absurd (true≢false (sym (at.listed c q here
-            ∙ both _ _ (lt-ltb q m.size l) ((λ j. (m.rule q).touches (sym long j) (sym is j)) ∙ touched)) ∙ asleep))
-        | inr apart ↦ sym (get_or-set_other a c k x none_row apart)
-      ]) (quiet q l)
+  pub stirs_listed : sound a ≡ true → length a ≡ n → Still m (cells a) → c < n → sound (set a c x) ≡ true → AsleepBut m w (Some c) (set a c x)
+  stirs_listed s long quiet here t = (
+    omega (arith, length-set a c x, long, here),
+    λ q l asleep.
+        let e : length a ≡ length (set a c x) = sym (length-set a c x) in
+        stays_quiet m laws a (set a c x) q s t e (λ k i touched. elim (cases_eq k c) [
+          | inl is ↦ absurd (true≢false (sym (at.listed c q here l ((λ j. (m.rule q).touches (sym long j) (sym is j)) ∙ touched)) ∙ asleep))
+          | inr apart ↦ sym (get_or-set_other a c k x none_row apart)
+        ]) (quiet q l),
+  )
 
 -- a narrowing changes no cell whose bit the rule does not have
 module _ {C R : ℕ} (m : Meaning) (laws : FiveLaws m) (w : Watchers C R) (a b : List Row) (r : ℕ) (at : Watching m (length a) w) where

@@ -1,5 +1,5 @@
 -- Which rules are pending: one that is not is quiet on the rows.
-use Rattle.std.specs.Prelude.{◌≡◌, ℕ, ◌+◌, ◌*◌, ◌%◌, ◌<◌, ◌≤◌, true, false, ◌≢◌, List, length, slice_index_or}
+use Rattle.std.specs.Prelude.{◌≡◌, ℕ, ◌+◌, ◌*◌, ◌%◌, ◌<◌, ◌≤◌, true, false, ◌≢◌, List, length, Option, Some, None, slice_index_or}
 use Rattle.std.specs.Int.{bit_at}
 use Rattle.bounds.specs.declared.row.Row.{Row}
 use Rattle.bounds.specs.Boards.{cells, none_row}
@@ -9,10 +9,15 @@ use Rattle.rule_families.specs.declared.change.Change.TheVariants.{Quiet, Narrow
 use Rattle.rule_sets.specs.declared.rule_set.RuleSet.{RuleSet}
 use Rattle.rule_sets.specs.Members.{has, Removed}
 use Rattle.settling.specs.declared.watchers.Watchers.{Watchers}
-use Rattle.settling.specs.Watching.{watching}
+use Rattle.settling.specs.Watching.{watched}
 
 abbrev pub Asleep : Meaning → List Row → RuleSet → Type 0
 Asleep m a p = (q : ℕ) → q < m.size → has p q ≡ false → (m.rule q).narrowed a ≡ cells a
+
+-- every rule is quiet that is not listed with the one cell that changed, if one did
+abbrev pub AsleepBut : {C R : ℕ} → Meaning → Watchers C R → Option ℕ → List Row → Type 0
+AsleepBut m w None a = (q : ℕ) → q < m.size → (m.rule q).narrowed a ≡ cells a
+AsleepBut m w (Some c) a = (c < length a) × ((q : ℕ) → q < m.size → watched w c q ≡ false → (m.rule q).narrowed a ≡ cells a)
 
 -- rule q touches no cell of n below c that rule r touches
 abbrev pub Apart : Meaning → ℕ → ℕ → ℕ → ℕ → Type 0
@@ -28,7 +33,7 @@ Asked m n r p p' = (q : ℕ) → q < m.size → has p' q ≡ false → (has p q 
 
 -- of the cells of which P holds, those that are listed with the rule have the same row
 abbrev pub Unstirred : {C R : ℕ} → Watchers C R → (ℕ → Type 0) → List Row → List Row → ℕ → Type 0
-Unstirred w P a b q = (c : ℕ) → c < length b → P c → has (watching w c) q ≡ true → slice_index_or a c none_row ≡ slice_index_or b c none_row
+Unstirred w P a b q = (c : ℕ) → c < length b → P c → watched w c q ≡ true → slice_index_or a c none_row ≡ slice_index_or b c none_row
 
 -- a rule that is not pending after was not before, and of the cells of which P holds none changed that is listed with it
 abbrev pub WokenAmong : {C R : ℕ} → Watchers C R → (ℕ → Type 0) → List Row → List Row → RuleSet → RuleSet → Type 0

@@ -2,7 +2,7 @@
 ghost use Rattle.std.specs.Prelude.{◌≡◌, ◌+◌, ◌*◌, ◌%◌, ◌<◌, ◌≤◌, ◌==◌, ◌&&◌, true, length, slice_index};
 ghost use Rattle.bounds.specs.Boards.{sound, spread};
 ghost use Rattle.rule_families.specs.Narrows.{Narrows};
-ghost use Rattle.settling.specs.Asleep.{Asleep, Asked, AskedAt, Woken, WokenAmong, Taken, SameOutside, Within64, Marked};
+ghost use Rattle.settling.specs.Asleep.{Asleep, AsleepBut, Asked, AskedAt, Woken, WokenAmong, Taken, SameOutside, Within64, Marked};
 ghost use Rattle.settling.specs.Settles.{Settles, SettlesOrBegins, SettlesOn};
 ghost use Rattle.settling.specs.Watching.{Watching};
 
@@ -38,7 +38,9 @@ fn settle_asking<F: Family>(family: &F, pending: &mut RuleSet, rows: &mut [Row])
 {
     let words = family.size().div_ceil(64);
     'scan: for applied in 0..ASKED {
-        while let Some(rule) = pending.first(words) {
+        let mut passed = 0;
+        while let Some(rule) = pending.first_past(passed, words) {
+            passed = rule / 64;
             match family.narrow(rule, rows) {
                 Change::Quiet => pending.remove(rule),
                 Change::Narrowed => {
@@ -118,7 +120,8 @@ fn settle_in<F: Family, const CELLS: usize, const RULES: usize>(
     requires room { (CELLS ≤ 1024) × (RULES ≤ 4096) }
     ensures { Settles (F.meaning family.now) rows.old rows.new result }
 {
-    let watchers = Watchers::<CELLS, RULES>::of(family, rows.len());
+    let mut watchers = Watchers::<CELLS, RULES>::none(family);
+    watchers.list_all(family, rows.len());
     let mut room = [Row::default(); CELLS];
     settle_from(family, &watchers, pending, &mut room[..rows.len()], rows)
 }
@@ -145,7 +148,9 @@ pub fn settle_from<F: Family, const CELLS: usize, const RULES: usize>(
     before.copy_from_slice(rows);
     // Each application takes one at least from the width.
     'scan: for applied in 0..width(rows) {
-        while let Some(rule) = pending.first(watchers.words) {
+        let mut passed = 0;
+        while let Some(rule) = pending.first_past(passed, watchers.words) {
+            passed = rule / 64;
             // Pending as any rule that narrowed, but known to be quiet until another narrows.
             if resting == Some(rule) {
                 pending.remove(rule);
@@ -163,6 +168,30 @@ pub fn settle_from<F: Family, const CELLS: usize, const RULES: usize>(
         return Settled::Settled(applied);
     }
     unreachable()
+}
+
+// The same for rows on which every rule is quiet that is not listed with the one cell that changed, if one did.
+// Kept: not inlined, so that no level of a search has a set of rules on the stack.
+#[inline(never)]
+pub fn settle_stirred<F: Family, const CELLS: usize, const RULES: usize>(
+    family: &F,
+    watchers: &Watchers<CELLS, RULES>,
+    stirred: Option<usize>,
+    before: &mut [Row],
+    rows: &mut [Row],
+) -> Settled
+    requires sound { sound rows.old ≡ true }
+    requires few { length rows.old ≤ 1024 }
+    requires watching { Watching (F.meaning family.now) (length rows.old) watchers.now }
+    requires asleep { AsleepBut (F.meaning family.now) watchers.now stirred rows.old }
+    requires before { length before.old ≡ length rows.old }
+    ensures { Settles (F.meaning family.now) rows.old rows.new result }
+{
+    let mut pending = RuleSet::none();
+    if let Some(cell) = stirred {
+        watchers.wake(cell, &mut pending);
+    }
+    settle_from(family, watchers, &pending, before, rows)
 }
 
 // Narrows the rows by the rule: where it is quiet it waits no more, and where it narrows them it wakes what it may have stirred.
@@ -220,7 +249,7 @@ fn wake<const CELLS: usize, const RULES: usize>(
     requires listed { rule < RULES }
     requires few { length rows.now ≤ 1024 }
     requires cells { length rows.now ≤ CELLS }
-    requires words { watchers.now.words ≤ 64 }
+    requires words { (watchers.now.words ≤ 64) × (64 * watchers.now.words ≤ RULES) }
     requires before { length before.old ≡ length rows.now }
     requires reached { SameOutside (slice_index watchers.now.reach rule) before.old rows.now }
     ensures woken { Woken watchers.now before.old rows.now pending.old pending.new }
@@ -245,7 +274,7 @@ fn wake_64<const CELLS: usize, const RULES: usize>(
     requires first { (first % 64 ≡ 0) × (first < length rows.now) }
     requires few { length rows.now ≤ 1024 }
     requires cells { length rows.now ≤ CELLS }
-    requires words { watchers.now.words ≤ 64 }
+    requires words { (watchers.now.words ≤ 64) × (64 * watchers.now.words ≤ RULES) }
     requires before { length before.old ≡ length rows.now }
     requires reached { SameOutside reach before.old rows.now }
     ensures woken { WokenAmong watchers.now (Within64 first) before.old rows.now pending.old pending.new }
@@ -272,14 +301,14 @@ fn wake_at<const CELLS: usize, const RULES: usize>(
     requires cell { cell < length rows.now }
     requires few { length rows.now ≤ 1024 }
     requires cells { length rows.now ≤ CELLS }
-    requires words { watchers.now.words ≤ 64 }
+    requires words { (watchers.now.words ≤ 64) × (64 * watchers.now.words ≤ RULES) }
     requires before { length before.old ≡ length rows.now }
     ensures woken { WokenAmong watchers.now (λ c. c ≡ cell) before.old rows.now pending.old pending.new }
     ensures before { Taken (λ c. c ≡ cell) before.old rows.now before.new }
 {
     if !stays(before[cell], rows[cell]) {
         before[cell] = rows[cell];
-        pending.unite(&watchers.by_cell[cell], watchers.words);
+        watchers.wake(cell, pending);
     }
 }
 

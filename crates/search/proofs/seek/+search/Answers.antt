@@ -1,8 +1,8 @@
-use Rattle.std.proofs.Common.{ℕ, List, length, drop, sym, refl, ap, ◌∙◌, subst, arith, rules}
+use Rattle.std.proofs.Common.{ℕ, Some, List, length, drop, sym, refl, ap, ◌∙◌, subst, arith, rules}
 use Rattle.bounds.specs.declared.row.Row.{Row}
 use Rattle.bounds.specs.Boards.{sound, spread}
-use Rattle.settling.specs.Asleep.{Asleep}
-use Rattle.settling.specs.Watching.{Watching, watching}
+use Rattle.settling.specs.Asleep.{AsleepBut}
+use Rattle.settling.specs.Watching.{Watching}
 use Rattle.settling.proofs.Applied.{applied_narrower}
 use Rattle.search.proofs.Tries.{Node, keeps_same, none_voided, leaf_found, node, lower, fixed_sound, fixed_length, fixed_narrower, raised_narrower, tried_room, try_found, try_none, fixed_asleep, raised_asleep}
 use Rattle.search.proofs.seek.+search.Given as given
@@ -10,9 +10,9 @@ use Rattle.search.proofs.seek.+search.Goals as goal
 use Rattle.search.proofs.seek.+search.Goals.{In-Some}
 
 at-cell : (g : given.Over) (t : ℕ) (c : goal.In-Some g t)
-    → Node (g.F.Family.meaning c.args.family.now) c.args.level.now c.settle_from.new.rows c.in-Some.cell
+    → Node (g.F.Family.meaning c.args.family.now) c.args.level.now c.settle_stirred.new.rows c.in-Some.cell
 at-cell g t c =
-    node _ (g.F.Family.lawful c.args.family.now) c.args.level.now c.loop-level.level c.settle_from.new.rows c.in_default.field-0
+    node _ (g.F.Family.lawful c.args.family.now) c.args.level.now c.loop-level.level c.settle_stirred.new.rows c.in_default.field-0
     c.loop-level.invariant.0 c.loop-level.auto.level c.in_default.ensures c.in-Some.cell c.in-Some.ensures
 
 pub loop-level-init : goal.loop-level-init
@@ -20,16 +20,16 @@ loop-level-init g t c = (keeps_same _ _ c.requires.sound, refl, c.requires.aslee
 
 pub returns-in-Void : goal.returns-in-Void
 returns-in-Void g t c = (
-  none_voided _ (g.F.Family.lawful c.args.family.now) _ c.loop-level.level c.settle_from.new.rows c.in-Void.field-0
+  none_voided _ (g.F.Family.lawful c.args.family.now) _ c.loop-level.level c.settle_stirred.new.rows c.in-Void.field-0
       c.loop-level.invariant.0 c.loop-level.auto.level c.in-Void.ensures,
   c.loop-level.invariant.1,
 )
 
 pub returns-in_default-first_open : goal.returns-in_default-first_open
 returns-in_default-first_open g t c =
-    leaf_found _ (g.F.Family.lawful c.args.family.now) _ c.loop-level.level c.settle_from.new.rows c.in_default.field-0
+    leaf_found _ (g.F.Family.lawful c.args.family.now) _ c.loop-level.level c.settle_stirred.new.rows c.in_default.field-0
     c.loop-level.invariant.0 c.loop-level.auto.level c.in_default.ensures c.in_default-first_open.ensures _ _ c.write_lows.ensures.front
-    (c.write_lows.ensures.back ∙ ap (drop (length c.settle_from.new.rows)) c.loop-level.invariant.1)
+    (c.write_lows.ensures.back ∙ ap (drop (length c.settle_stirred.new.rows)) c.loop-level.invariant.1)
 
 pub split_at_mut-tried-requires : goal.split_at_mut-tried-requires
 split_at_mut-tried-requires g t c =
@@ -61,7 +61,7 @@ search-requires g t c κs within =
                       (
                         subst (λ (k : ℕ). Watching (g.F.Family.meaning c.args.family.now) k c.args.watchers.now) (sym n) at,
                         (
-                          subst (λ (x : List Row). Asleep (g.F.Family.meaning c.args.family.now) x (watching c.args.watchers.now c.in-Some.cell)) (sym is)
+                          subst (λ (x : List Row). AsleepBut (g.F.Family.meaning c.args.family.now) c.args.watchers.now (Some c.in-Some.cell) x) (sym is)
                               (fixed_asleep _ _ _ _ d (g.F.Family.lawful c.args.family.now) _ at),
                           omega (arith, c.requires.before),
                         ),
