@@ -1,4 +1,6 @@
 // The house's mirrors beside a job's triples: settled, tried and sought.
+ghost use Rattle.std.specs.Prelude.{◌<◌};
+
 use crate::family::{Mirrors, mirrors};
 use crate::mirror::Mirror;
 use board::board::Board;
@@ -12,6 +14,7 @@ use run::call::Call;
 use run::script::run;
 use search::seek::seek;
 use settling::settled::Settled;
+use settling::watchers::Watchers;
 use std::test::Fail;
 use triples::family::Triples;
 
@@ -162,4 +165,47 @@ fn two_plans_of_a_script(rt: HostRuntime) -> Result<(), Fail> {
     );
     assert_eq!(rt; plans, [5, 7, 12, 6, 6, 12, 0]);
     Ok(())
+}
+
+// Which of the three rules are listed with the cell.
+fn listed(watchers: &Watchers, cell: usize) -> [bool; 3]
+    requires { cell < 1024 }
+{
+    let rules = watchers.by_cell[cell];
+    [rules.contains(0), rules.contains(1), rules.contains(2)]
+}
+
+#[test]
+fn a_table_lists_each_rule_with_its_cells(rt: HostRuntime) {
+    let watchers = Watchers::of(&rules(), 3);
+    assert_eq!(rt;
+        listed(&watchers, 0),
+        [true, true, false],
+        "the board has no cell 3"
+    );
+    assert_eq!(rt; listed(&watchers, 1), [true, true, false]);
+    assert_eq!(rt; listed(&watchers, 2), [true, false, false]);
+    assert_eq!(rt; watchers.reach[0], 7);
+    assert_eq!(rt; watchers.reach[1], 3);
+    assert_eq!(rt; watchers.words, 1);
+    assert_eq!(rt; watchers.resting(1), Some(1));
+    assert_eq!(rt; watchers.resting(3), None, "there are three rules");
+}
+
+#[test]
+fn a_table_of_many_rules_lists_no_other(rt: HostRuntime) {
+    let idle = Mirror {
+        left: 2,
+        right: 2,
+        most: 0,
+    };
+    let mut list = [idle; 65];
+    list[0].left = 0;
+    list[64].left = 64;
+    let watchers = Watchers::of(&mirrors(&list), 65);
+    assert!(rt; watchers.by_cell[0].contains(0));
+    assert!(rt; watchers.by_cell[64].contains(64));
+    assert!(rt; !watchers.by_cell[0].contains(64));
+    assert!(rt; !watchers.by_cell[64].contains(0));
+    assert_eq!(rt; watchers.words, 2);
 }

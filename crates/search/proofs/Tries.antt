@@ -13,10 +13,12 @@ use Rattle.bounds.proofs.Places.{low_at, high_at, same_row, sound_at, fills_at, 
 use Rattle.bounds.proofs.Rows.{fills_lows, inside_all, cut, fills_cut, cut_fills, sound_set, spread_inside}
 use Rattle.settling.specs.declared.settled.Settled.TheVariants.{Settled, Void}
 use Rattle.settling.specs.declared.watchers.Watchers.{Watchers}
-use Rattle.settling.specs.Asleep.{AsleepBut}
-use Rattle.settling.specs.Watching.{Watching}
+use Rattle.settling.specs.declared.folded.FoldedWatchers.{FoldedWatchers}
+use Rattle.settling.specs.Asleep.{Asleep, AsleepBut}
+use Rattle.settling.specs.Watching.{Watching, watching}
+use Rattle.settling.specs.Folded.{FoldedWatching}
 use Rattle.settling.specs.Plans.{First, Before, NoPlan, Still}
-use Rattle.settling.proofs.Sleeps.{stirs_listed}
+use Rattle.settling.proofs.Sleeps.{stirs_listed, stirs_folded}
 use Rattle.settling.specs.Settles.{Settles}
 use Rattle.settling.proofs.Applied.{Keeps, applied_keeps}
 use Rattle.search.specs.Seeks.{is_open, opens, fixed_at, raised_at, Searched}
@@ -175,13 +177,21 @@ module _ (m : Meaning) (b a : List Row) (c : ℕ) (d : Node m b a c) where
   raised_narrower = raised_spread a c d.here lower
 
   -- only the rules that are listed with the cell may narrow the try, and what is left
-  module _ (laws : FiveLaws m) {C R : ℕ} (w : Watchers C R) (at : Watching m (length b) w) where
-    pub fixed_asleep : AsleepBut m w (Some c) (fixed_at a c)
+  module _ (laws : FiveLaws m) (w : Watchers) (at : Watching m (length b) w) where
+    pub fixed_asleep : Asleep m (fixed_at a c) (watching w c)
     fixed_asleep = stirs_listed m laws a c _ w (length b) at d.kept.still_sound d.len d.quiet (omega (arith, d.here, d.len)) fixed_sound
 
-    pub raised_asleep : AsleepBut m w (Some c) (raised_at a c)
+    pub raised_asleep : Asleep m (raised_at a c) (watching w c)
     raised_asleep = let o = lower in
         stirs_listed m laws a c _ w (length b) at d.kept.still_sound d.len d.quiet (omega (arith, d.here, d.len)) (sound_set a c _ d.kept.still_sound (omega arith))
+
+  module _ (laws : FiveLaws m) {C R : ℕ} (w : FoldedWatchers C R) (at : FoldedWatching m (length b) w) where
+    pub fixed_folded : AsleepBut m w (Some c) (fixed_at a c)
+    fixed_folded = stirs_folded m laws a c _ w (length b) at d.kept.still_sound d.len d.quiet (omega (arith, d.here, d.len)) fixed_sound
+
+    pub raised_folded : AsleepBut m w (Some c) (raised_at a c)
+    raised_folded = let o = lower in
+        stirs_folded m laws a c _ w (length b) at d.kept.still_sound d.len d.quiet (omega (arith, d.here, d.len)) (sound_set a c _ d.kept.still_sound (omega arith))
 
   -- the rest has room for the try and for what it needs in turn
   pub tried_room : (r : ℕ) → opens b * length b ≤ r → opens (fixed_at a c) * length b + length b ≤ r

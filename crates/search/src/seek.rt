@@ -5,18 +5,17 @@ ghost use Rattle.board.specs.Calls.{Does};
 ghost use Rattle.board.specs.Held.{state};
 ghost use Rattle.settling.specs.Asleep.{AsleepBut};
 ghost use Rattle.settling.specs.Plans.{Still};
-ghost use Rattle.settling.specs.Watching.{Watching};
+ghost use Rattle.settling.specs.Folded.{FoldedWatching};
 ghost use Rattle.search.specs.Seeks.{event_of_seek, Memory, is_open, opens, fixed_at, raised_at, Searched};
 
 use board::board::Board;
 use board::refusal::Refusal;
 use bounds::row::Row;
 use rule_families::family::{Family, MOST_RULES};
+use settling::folded::FoldedWatchers;
 use settling::settle::{settle_rows, settle_stirred};
 use settling::settled::Settled;
-use settling::watchers::{
-    FEW_CELLS, FEW_RULES, MOST_CELLS, Room, SOME_CELLS, SOME_RULES, Watchers,
-};
+use settling::watchers::{FEW_CELLS, FEW_RULES, MOST_CELLS, Room, SOME_CELLS, SOME_RULES};
 
 // Whether the board holds a plan: the first is then written at the front of the plan memory.
 // Scratch holds the board's rows and a level for each of its cells.
@@ -104,7 +103,7 @@ fn search_in<F: Family, const CELLS: usize, const RULES: usize>(
     ensures { Searched (F.meaning family.now) level.old plan.old plan.new result }
 {
     let cells = level.len();
-    let mut watchers = Watchers::<CELLS, RULES>::none(family);
+    let mut watchers = FoldedWatchers::<CELLS, RULES>::none(family);
     watchers.list_all(family, cells);
     let mut room = [Row::default(); CELLS];
     search(
@@ -122,7 +121,7 @@ fn search_in<F: Family, const CELLS: usize, const RULES: usize>(
 // Kept: a plan that a try returned as a borrow could not be lent to the next try of the loop.
 fn search<F: Family, const CELLS: usize, const RULES: usize>(
     family: &F,
-    watchers: &Watchers<CELLS, RULES>,
+    watchers: &FoldedWatchers<CELLS, RULES>,
     mut stirred: Option<usize>,
     before: &mut [Row],
     level: &mut [Row],
@@ -133,7 +132,7 @@ fn search<F: Family, const CELLS: usize, const RULES: usize>(
     requires few { length level.old ≤ 1024 }
     requires counts { length level.old ≤ length plan.old }
     requires room { opens level.old * length level.old ≤ length rest.old }
-    requires watching { Watching (F.meaning family.now) (length level.old) watchers.now }
+    requires watching { FoldedWatching (F.meaning family.now) (length level.old) watchers.now }
     requires asleep { AsleepBut (F.meaning family.now) watchers.now stirred level.old }
     requires before { length before.old ≡ length level.old }
     ensures { Searched (F.meaning family.now) level.old plan.old plan.new result }

@@ -2,6 +2,7 @@ pub mod Holds
 pub mod Applied
 pub mod Asks
 pub mod Lists
+pub mod Folds
 pub mod Sleeps
 pub mod Words
 pub mod Wakes

@@ -11,11 +11,11 @@ use Rattle.rule_families.specs.Narrows.{Narrows}
 use Rattle.rule_sets.specs.declared.rule_set.RuleSet.{RuleSet}
 use Rattle.rule_sets.specs.Members.{Removed, Lowest as LowestOf}
 use Rattle.settling.specs.declared.settled.Settled.TheVariants.{Settled, Void}
-use Rattle.settling.specs.declared.watchers.Watchers.{Watchers}
+use Rattle.settling.specs.declared.folded.FoldedWatchers.{FoldedWatchers}
 use Rattle.settling.specs.Asleep.{Asleep, Woken}
 use Rattle.settling.specs.Plans.{Applies, more}
 use Rattle.settling.specs.Settles.{Settles}
-use Rattle.settling.specs.Watching.{Watching, Rests}
+use Rattle.settling.specs.Folded.{FoldedWatching, FoldedRests}
 use Rattle.settling.proofs.Applied.{QuietBelow, lowest_narrows, lowest_voids, applied_keeps, applied_narrower}
 use Rattle.settling.proofs.Sleeps.{stays_quiet}
 
@@ -40,9 +40,9 @@ module _ (m : Meaning) (laws : FiveLaws m) (a b : List Row) (n : ℕ) (p : RuleS
   pub scanned_narrower : n < spread a
   scanned_narrower = omega (arith, applied_narrower m laws s h.applied, spread_pos b)
 
-  module _ {C R : ℕ} (w : Watchers C R) (at : Watching m (length a) w) where
-    is : Watching m (length b) w
-    is = subst (λ (k : ℕ). Watching m k w) (sym h.long) at
+  module _ {C R : ℕ} (w : FoldedWatchers C R) (at : FoldedWatching m (length a) w) where
+    is : FoldedWatching m (length b) w
+    is = subst (λ (k : ℕ). FoldedWatching m k w) (sym h.long) at
 
     -- nothing is pending
     pub scan_ends : LowestOf p w.words None → Settles m a b (Settled n)
@@ -92,13 +92,13 @@ module _ (m : Meaning) (laws : FiveLaws m) (a b : List Row) (n : ℕ) (p : RuleS
               long = h.long;
             }) seen
 
-        resting_now : (o' : Option ℕ) → Rests w r o' → (m.rule r).narrowed b ≡ cells c
+        resting_now : (o' : Option ℕ) → FoldedRests w r o' → (m.rule r).narrowed b ≡ cells c
             → (q : ℕ) → o' ≡ Some q → (m.rule q).narrowed c ≡ cells c
         resting_now None rest narrows q e = absurd (none-some q e)
         resting_now (Some q') (same, known) narrows q e =
             ap (λ i. (m.rule i).narrowed c) (sym (ap (kept q) e) ∙ same) ∙ is.known r known b c scanned_sound narrows
 
-        pub scan_narrows : (o' : Option ℕ) → Rests w r o' → Narrows (m.rule r).narrowed b c Narrowed → Woken w b c p p' → f' ≡ c
+        pub scan_narrows : (o' : Option ℕ) → FoldedRests w r o' → Narrows (m.rule r).narrowed b c Narrowed → Woken w b c p p' → f' ≡ c
             → length c ≡ length b → Scanned m a c (n + 1) p' f' o'
         scan_narrows o' rest (narrows, moved) woken seen long =
             let l = listed (λ e. moved (cells_same c b (sym narrows ∙ e))) in

@@ -1,5 +1,5 @@
 -- A quiet rule stays quiet where no cell that it touches changes.
-use Rattle.std.proofs.Common.{◌≡◌, ℕ, ◌%◌, ◌<◌, ◌&&◌, Bool, true, List, Some, length, get_or, set, length-set, sym, refl, ap, ◌∙◌, subst, inl, inr, arith}
+use Rattle.std.proofs.Common.{◌≡◌, ℕ, ◌%◌, ◌<◌, ◌&&◌, ◌≢◌, Bool, true, List, Some, length, get_or, set, lt-ltb, length-set, sym, refl, ap, ◌∙◌, subst, inl, inr, arith}
 use Rattle.std.specs.Int.{bit_at}
 use Rattle.std.proofs.lemmas.Bool.{cases_Bool, cases_eq, cases_lt, true≢false}
 use Rattle.std.proofs.lemmas.List.{get_or-set_other}
@@ -7,9 +7,11 @@ use Rattle.bounds.specs.declared.row.Row.{Row}
 use Rattle.bounds.specs.Boards.{Board, void, cells, sound, Within, none_row}
 use Rattle.bounds.specs.Laws.{Meaning, FiveLaws, Rule, Touched, Alike}
 use Rattle.settling.specs.declared.watchers.Watchers.{Watchers}
-use Rattle.settling.specs.Asleep.{AsleepBut, SameOutside}
+use Rattle.settling.specs.declared.folded.FoldedWatchers.{FoldedWatchers}
+use Rattle.settling.specs.Asleep.{Asleep, AsleepBut, SameOutside}
 use Rattle.settling.specs.Plans.{Still}
-use Rattle.settling.specs.Watching.{Watching}
+use Rattle.settling.specs.Watching.{Watching, watching}
+use Rattle.settling.specs.Folded.{FoldedWatching}
 use Rattle.bounds.proofs.Rows.{inside_length}
 use Rattle.bounds.proofs.Places.{same_rows}
 
@@ -31,21 +33,33 @@ module _ (m : Meaning) (laws : FiveLaws m) (a b : List Row) (q : ℕ) (s : sound
   stays_quiet quiet = still ((m.rule q).narrowed b) refl
       (subst (λ (x : Board). Alike (m.rule q) x ((m.rule q).narrowed b)) quiet ((laws.each q).local_end a b s t e same))
 
--- where no rule narrows the rows, another row in one cell may stir only the rules that are listed with it
-module _ {C R : ℕ} (m : Meaning) (laws : FiveLaws m) (a : List Row) (c : ℕ) (x : Row) (w : Watchers C R) (n : ℕ) (at : Watching m n w) where
-  pub stirs_listed : sound a ≡ true → length a ≡ n → Still m (cells a) → c < n → sound (set a c x) ≡ true → AsleepBut m w (Some c) (set a c x)
-  stirs_listed s long quiet here t = (
+-- where no rule narrows the rows, another row in one cell stirs no rule that does not touch it
+module _ (m : Meaning) (laws : FiveLaws m) (a : List Row) (c : ℕ) (x : Row) (n : ℕ) where
+  pub stirs_no_other : sound a ≡ true → length a ≡ n → Still m (cells a) → sound (set a c x) ≡ true
+      → (q : ℕ) → q < m.size → (m.rule q).touches n c ≢ true → (m.rule q).narrowed (set a c x) ≡ cells (set a c x)
+  stirs_no_other s long quiet t q l apart =
+      let e : length a ≡ length (set a c x) = sym (length-set a c x) in
+      stays_quiet m laws a (set a c x) q s t e (λ k i touched. elim (cases_eq k c) [
+        | inl is ↦ absurd (apart ((λ j. (m.rule q).touches (sym long j) (sym is j)) ∙ touched))
+        | inr other ↦ sym (get_or-set_other a c k x none_row other)
+      ]) (quiet q l)
+
+-- so it may stir only the rules that are listed with it
+module _ (m : Meaning) (laws : FiveLaws m) (a : List Row) (c : ℕ) (x : Row) (w : Watchers) (n : ℕ) (at : Watching m n w) where
+  pub stirs_listed : sound a ≡ true → length a ≡ n → Still m (cells a) → c < n → sound (set a c x) ≡ true → Asleep m (set a c x) (watching w c)
+  stirs_listed s long quiet here t q l asleep =
+      stirs_no_other m laws a c x n s long quiet t q l (λ touched.
+      true≢false (sym (at.listed c q here ∙ both _ _ (lt-ltb q m.size l) touched) ∙ asleep))
+
+module _ {C R : ℕ} (m : Meaning) (laws : FiveLaws m) (a : List Row) (c : ℕ) (x : Row) (w : FoldedWatchers C R) (n : ℕ) (at : FoldedWatching m n w) where
+  pub stirs_folded : sound a ≡ true → length a ≡ n → Still m (cells a) → c < n → sound (set a c x) ≡ true → AsleepBut m w (Some c) (set a c x)
+  stirs_folded s long quiet here t = (
     omega (arith, length-set a c x, long, here),
-    λ q l asleep.
-        let e : length a ≡ length (set a c x) = sym (length-set a c x) in
-        stays_quiet m laws a (set a c x) q s t e (λ k i touched. elim (cases_eq k c) [
-          | inl is ↦ absurd (true≢false (sym (at.listed c q here l ((λ j. (m.rule q).touches (sym long j) (sym is j)) ∙ touched)) ∙ asleep))
-          | inr apart ↦ sym (get_or-set_other a c k x none_row apart)
-        ]) (quiet q l),
+    λ q l asleep. stirs_no_other m laws a c x n s long quiet t q l (λ touched. true≢false (sym (at.listed c q here l touched) ∙ asleep)),
   )
 
 -- a narrowing changes no cell whose bit the rule does not have
-module _ {C R : ℕ} (m : Meaning) (laws : FiveLaws m) (w : Watchers C R) (a b : List Row) (r : ℕ) (at : Watching m (length a) w) where
+module _ {C R : ℕ} (m : Meaning) (laws : FiveLaws m) (w : FoldedWatchers C R) (a b : List Row) (r : ℕ) (at : FoldedWatching m (length a) w) where
   reached : (c : ℕ) → c < length a → (m.rule r).touches (length a) c ≡ true → bit_at (get_or w.reach r 0) (c % 64) ≡ 1
   reached c l touched = elim (cases_lt r m.size) [
     | inl k ↦ at.reach r k c l touched

@@ -8,7 +8,7 @@ use Rattle.bounds.specs.declared.row.Row.{Row}
 use Rattle.bounds.specs.Boards.{none_row}
 use Rattle.rule_sets.specs.declared.rule_set.RuleSet.{RuleSet}
 use Rattle.rule_sets.specs.Members.{WithoutBit}
-use Rattle.settling.specs.declared.watchers.Watchers.{Watchers}
+use Rattle.settling.specs.declared.folded.FoldedWatchers.{FoldedWatchers}
 use Rattle.settling.specs.Asleep.{WokenAmong, Woken, Taken, SameOutside, Within64}
 
 -- P holds of cell k and of those of which it held before, and of no more
@@ -18,7 +18,7 @@ pub record OneMore (P P' : ℕ → Type 0) (k : ℕ) : Type 0 where
   pub here : P' k
   pub apart : P k → ⊥
 
-module _ {C R : ℕ} (w : Watchers C R) (a b : List Row) (P P' : ℕ → Type 0) (k : ℕ) (more : OneMore P P' k) where
+module _ {C R : ℕ} (w : FoldedWatchers C R) (a b : List Row) (P P' : ℕ → Type 0) (k : ℕ) (more : OneMore P P' k) where
   module _ (a' : List Row) (t : Taken P a b a') where
     pub woken_one : (p p' p'' : RuleSet) → WokenAmong w P a b p p' → WokenAmong w (λ c. c ≡ k) a' b p' p'' → WokenAmong w P' a b p p''
     woken_one p p' p'' h f q l off =
@@ -77,14 +77,14 @@ module _ (first left k left' : ℕ) (whole : first % 64 ≡ 0) (few : k < 64) (s
       bit_here : (first + k) % 64 ≡ k
       bit_here = omega (arith, whole, few)
 
-module _ {C R : ℕ} (w : Watchers C R) (a b : List Row) (first reach : ℕ) (same : SameOutside reach a b) where
+module _ {C R : ℕ} (w : FoldedWatchers C R) (a b : List Row) (first reach : ℕ) (same : SameOutside reach a b) where
   pub none_done : (p : RuleSet) → WokenAmong w (Done first reach) a b p p
   none_done p q l off = (off, λ c o m touched. same c o m.1)
 
   pub none_over : Taken (Done first reach) a b a
   none_over = record { long = refl; taken = λ c o m. same c o m.1; others = λ c not. refl }
 
-module _ {C R : ℕ} (w : Watchers C R) (a b : List Row) (first left : ℕ) (none : left ≡ 0) where
+module _ {C R : ℕ} (w : FoldedWatchers C R) (a b : List Row) (first left : ℕ) (none : left ≡ 0) where
   all_of : (c : ℕ) → Within64 first c → Done first left c
   all_of c m = (m, ap (λ x. bit_at x (c % 64)) none ∙ bit_at-zero (c % 64))
 
@@ -102,7 +102,7 @@ module _ {C R : ℕ} (w : Watchers C R) (a b : List Row) (first left : ℕ) (non
 abbrev pub Below : ℕ → ℕ → Type 0
 Below first c = c < first
 
-module _ {C R : ℕ} (w : Watchers C R) (a b : List Row) where
+module _ {C R : ℕ} (w : FoldedWatchers C R) (a b : List Row) where
   pub none_below : (p : RuleSet) → WokenAmong w (Below 0) a b p p
   none_below p q l off = (off, λ c o m touched. absurd (omega arith))
 

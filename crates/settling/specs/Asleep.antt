@@ -8,14 +8,14 @@ use Rattle.rule_families.specs.declared.change.Change.{Change}
 use Rattle.rule_families.specs.declared.change.Change.TheVariants.{Quiet, Narrowed, Void}
 use Rattle.rule_sets.specs.declared.rule_set.RuleSet.{RuleSet}
 use Rattle.rule_sets.specs.Members.{has, Removed}
-use Rattle.settling.specs.declared.watchers.Watchers.{Watchers}
-use Rattle.settling.specs.Watching.{watched}
+use Rattle.settling.specs.declared.folded.FoldedWatchers.{FoldedWatchers}
+use Rattle.settling.specs.Folded.{watched}
 
 abbrev pub Asleep : Meaning → List Row → RuleSet → Type 0
 Asleep m a p = (q : ℕ) → q < m.size → has p q ≡ false → (m.rule q).narrowed a ≡ cells a
 
 -- every rule is quiet that is not listed with the one cell that changed, if one did
-abbrev pub AsleepBut : {C R : ℕ} → Meaning → Watchers C R → Option ℕ → List Row → Type 0
+abbrev pub AsleepBut : {C R : ℕ} → Meaning → FoldedWatchers C R → Option ℕ → List Row → Type 0
 AsleepBut m w None a = (q : ℕ) → q < m.size → (m.rule q).narrowed a ≡ cells a
 AsleepBut m w (Some c) a = (c < length a) × ((q : ℕ) → q < m.size → watched w c q ≡ false → (m.rule q).narrowed a ≡ cells a)
 
@@ -32,14 +32,14 @@ abbrev pub Asked : Meaning → ℕ → ℕ → RuleSet → RuleSet → Type 0
 Asked m n r p p' = (q : ℕ) → q < m.size → has p' q ≡ false → (has p q ≡ false) × Apart m n n r q
 
 -- of the cells of which P holds, those that are listed with the rule have the same row
-abbrev pub Unstirred : {C R : ℕ} → Watchers C R → (ℕ → Type 0) → List Row → List Row → ℕ → Type 0
+abbrev pub Unstirred : {C R : ℕ} → FoldedWatchers C R → (ℕ → Type 0) → List Row → List Row → ℕ → Type 0
 Unstirred w P a b q = (c : ℕ) → c < length b → P c → watched w c q ≡ true → slice_index_or a c none_row ≡ slice_index_or b c none_row
 
 -- a rule that is not pending after was not before, and of the cells of which P holds none changed that is listed with it
-abbrev pub WokenAmong : {C R : ℕ} → Watchers C R → (ℕ → Type 0) → List Row → List Row → RuleSet → RuleSet → Type 0
+abbrev pub WokenAmong : {C R : ℕ} → FoldedWatchers C R → (ℕ → Type 0) → List Row → List Row → RuleSet → RuleSet → Type 0
 WokenAmong w P a b p p' = (q : ℕ) → q < 64 * w.words → has p' q ≡ false → (has p q ≡ false) × Unstirred w P a b q
 
-abbrev pub Woken : {C R : ℕ} → Watchers C R → List Row → List Row → RuleSet → RuleSet → Type 0
+abbrev pub Woken : {C R : ℕ} → FoldedWatchers C R → List Row → List Row → RuleSet → RuleSet → Type 0
 Woken w a b p p' = WokenAmong w (λ _. Unit {0}) a b p p'
 
 -- the rows a took over those of b in the cells of which P holds
@@ -57,7 +57,7 @@ abbrev pub SameOutside : ℕ → List Row → List Row → Type 0
 SameOutside word a b = (c : ℕ) → c < length b → bit_at word (c % 64) ≡ 0 → slice_index_or a c none_row ≡ slice_index_or b c none_row
 
 -- what a rule's answer makes of the pending rules
-abbrev pub Marked : {C R : ℕ} → Watchers C R → ℕ → List Row → List Row → RuleSet → RuleSet → Change → Type 0
+abbrev pub Marked : {C R : ℕ} → FoldedWatchers C R → ℕ → List Row → List Row → RuleSet → RuleSet → Change → Type 0
 Marked w r a b p p' Quiet = Removed p r p'
 Marked w r a b p p' Narrowed = Woken w a b p p'
 Marked w r a b p p' Void = p' ≡ p

@@ -1,4 +1,5 @@
 pub mod Plans
 pub mod Watching
+pub mod Folded
 pub mod Asleep
 pub mod Settles

@@ -1,44 +1,28 @@
 -- The rules by the cells that they touch.
-use Rattle.std.specs.Prelude.{◌≡◌, ℕ, ◌+◌, ◌*◌, ◌/◌, ◌%◌, ◌<◌, ◌≤◌, ◌==◌, ◌&&◌, ◌||◌, Bool, true, false, ◌≢◌, ◌⊎◌, List, slice_index, slice_index_or, Option, Some, None}
+use Rattle.std.specs.Prelude.{◌≡◌, ℕ, ◌*◌, ◌%◌, ◌<◌, ◌≤◌, ◌&&◌, nat_lt, Bool, true, false, ◌≢◌, ◌⊎◌, List, slice_index, slice_index_or, Option, Some, None}
 use Rattle.std.specs.Int.{bit_at}
 use Rattle.bounds.specs.Laws.{Meaning, Idempotent}
 use Rattle.rule_sets.specs.declared.rule_set.RuleSet.{RuleSet}
-use Rattle.rule_sets.specs.Members.{has}
+use Rattle.rule_sets.specs.Members.{has, no_rules}
 use Rattle.settling.specs.declared.watchers.Watchers.{Watchers}
 use Rattle.settling.specs.declared.watchers.Room.{Room}
 use Rattle.settling.specs.declared.watchers.Room.TheVariants as room
 use Rattle.settling.specs.declared.watchers.Room.TheVariants.{Few, Most}
 
--- whether a rule of number k modulo 64 is listed with cell c
-abbrev pub with_cell : {C R : ℕ} → Watchers C R → ℕ → ℕ → Bool
-with_cell w c k = bit_at (slice_index_or w.by_cell c 0) k == 1
+-- the rules that are listed with a cell
+abbrev pub watching : Watchers → ℕ → RuleSet
+watching w c = slice_index_or w.by_cell c no_rules
 
--- whether a cell of number p modulo 64 is listed with rule q
-abbrev pub with_rule : {C R : ℕ} → Watchers C R → ℕ → ℕ → Bool
-with_rule w q p = bit_at (slice_index_or w.by_word (64 * (q / 64) + p) 0) (q % 64) == 1
-
--- whether rule q and cell c are listed with each other
-abbrev pub watched : {C R : ℕ} → Watchers C R → ℕ → ℕ → Bool
-watched w c q = with_cell w c (q % 64) && with_rule w q (c % 64)
-
--- those of the rules below r that touch a cell of n are listed with it
-abbrev pub ListedBelow : {C R : ℕ} → Meaning → ℕ → ℕ → Watchers C R → Type 0
-ListedBelow m n r w = (c q : ℕ) → c < n → q < r → (m.rule q).touches n c ≡ true → watched w c q ≡ true
-
--- only for a rule below r that touches the cell
-abbrev pub CellOnly : {C R : ℕ} → Meaning → ℕ → ℕ → Watchers C R → Type 0
-CellOnly m n r w = (c k : ℕ) → k < 64 → with_cell w c k ≡ true → (q : ℕ) × (q < r) × (q % 64 ≡ k) × ((m.rule q).touches n c ≡ true)
-
--- only for a cell of n that the rule touches, where it is below r
-abbrev pub RuleOnly : {C R : ℕ} → Meaning → ℕ → ℕ → Watchers C R → Type 0
-RuleOnly m n r w = (q p : ℕ) → p < 64 → with_rule w q p ≡ true → (q < r) × ((c : ℕ) × (c < n) × (c % 64 ≡ p) × ((m.rule q).touches n c ≡ true))
+-- of the rules below r, those that touch a cell of n, and no others, are listed with it
+abbrev pub ListedBelow : Meaning → ℕ → ℕ → Watchers → Type 0
+ListedBelow m n r w = (c q : ℕ) → c < n → has (watching w c) q ≡ (nat_lt q r && (m.rule q).touches n c)
 
 -- each rule of the set is idempotent
 abbrev pub AllIdempotent : Meaning → RuleSet → Type 0
 AllIdempotent m s = (q : ℕ) → has s q ≡ true → Idempotent (m.rule q)
 
 -- for rule q, each cell of n that it touches has its bit set: that of its number modulo 64
-abbrev pub Reaches : {C R : ℕ} → Meaning → ℕ → ℕ → Watchers C R → Type 0
+abbrev pub Reaches : Meaning → ℕ → ℕ → Watchers → Type 0
 Reaches m n q w = (c : ℕ) → c < n → (m.rule q).touches n c ≡ true → bit_at (slice_index w.reach q) (c % 64) ≡ 1
 
 -- in the room so many cells and rules have their places, or it is the largest
@@ -48,54 +32,30 @@ Serves n r room.Some = (n ≤ 1024) × (r ≤ 1024)
 Serves n r Most = (1024 < n) ⊎ (1024 < r)
 
 -- what a table says of the cells of n, where the rules below r are listed
-pub record WatchingBelow {C R : ℕ} (m : Meaning) (n r : ℕ) (w : Watchers C R) : Type 0 where
+pub record WatchingBelow (m : Meaning) (n r : ℕ) (w : Watchers) : Type 0 where
   pub room : m.size ≤ 64 * w.words
   pub few : w.words ≤ 64
-  pub cells : n ≤ C
-  pub rules : 64 * w.words ≤ R
-  pub room_cells : C ≤ 1024
-  pub room_rules : R ≤ 4096
   pub listed : ListedBelow m n r w
-  pub cell_only : CellOnly m n r w
-  pub rule_only : RuleOnly m n r w
   pub reach : (q : ℕ) → q < r → Reaches m n q w
   pub known : AllIdempotent m w.idempotent
 
-abbrev pub Watching : {C R : ℕ} → Meaning → ℕ → Watchers C R → Type 0
+abbrev pub Watching : Meaning → ℕ → Watchers → Type 0
 Watching m n w = WatchingBelow m n m.size w
 
--- rule r is listed with the cells of which told holds, what was listed is, and nothing else
-pub record ListsMore {C R : ℕ} (told : ℕ → Type 0) (r : ℕ) (w w' : Watchers C R) : Type 0 where
+-- rule r is listed with the cells that it touches, where no other is listed anew
+pub record Listed (m : Meaning) (n r : ℕ) (w w' : Watchers) : Type 0 where
   pub words : w'.words ≡ w.words
   pub idempotent : w'.idempotent ≡ w.idempotent
-  pub rule : (c : ℕ) → told c → watched w' c r ≡ true
-  pub kept : (c q : ℕ) → watched w c q ≡ true → watched w' c q ≡ true
-  pub cell_only : (c k : ℕ) → k < 64 → with_cell w' c k ≡ true → (with_cell w c k ≡ true) ⊎ (told c × (k ≡ r % 64))
-  pub rule_only : (q p : ℕ) → p < 64 → with_rule w' q p ≡ true → (with_rule w q p ≡ true) ⊎ ((q ≡ r) × ((c : ℕ) × told c × (c % 64 ≡ p)))
-
--- with one cell, and the rule's reach is not noted yet
-abbrev pub ListedAt : {C R : ℕ} → ℕ → ℕ → Watchers C R → Watchers C R → Type 0
-ListedAt r x w w' = ListsMore (λ c. c ≡ x) r w w' × (w'.reach ≡ w.reach)
-
--- and its reach is noted
-pub record ListedWith {C R : ℕ} (told : ℕ → Type 0) (r : ℕ) (w w' : Watchers C R) : Type 0 where
-  pub more : ListsMore told r w w'
-  pub reach : (c : ℕ) → told c → bit_at (slice_index w'.reach r) (c % 64) ≡ 1
+  pub rule : (c : ℕ) → c < n → has (watching w c) r ≡ false → has (watching w' c) r ≡ (m.rule r).touches n c
+  pub others : (c q : ℕ) → q ≢ r → has (watching w' c) q ≡ has (watching w c) q
+  pub reach : Reaches m n r w'
   pub other_reach : (q : ℕ) → q ≢ r → slice_index w'.reach q ≡ slice_index w.reach q
-
--- with the cells of n that it touches
-abbrev pub Listed : {C R : ℕ} → Meaning → ℕ → ℕ → Watchers C R → Watchers C R → Type 0
-Listed m n r w w' = ListedWith (λ c. (c < n) × ((m.rule r).touches n c ≡ true)) r w w'
 
 -- the marks are of the cells of n that the rule touches
 abbrev pub Touches : Meaning → ℕ → ℕ → List Bool → Type 0
 Touches m n r marks = (c : ℕ) → c < n → slice_index_or marks c false ≡ (m.rule r).touches n c
 
--- the rules that are listed with cell c are pending too
-abbrev pub Stirred : {C R : ℕ} → Watchers C R → ℕ → RuleSet → RuleSet → Type 0
-Stirred w c p p' = (q : ℕ) → q < 64 * w.words → has p' q ≡ (has p q || watched w c q)
-
 -- the rule itself, if it is noted as idempotent
-abbrev pub Rests : {C R : ℕ} → Watchers C R → ℕ → Option ℕ → Type 0
+abbrev pub Rests : Watchers → ℕ → Option ℕ → Type 0
 Rests w r None = has w.idempotent r ≡ false
 Rests w r (Some q) = (q ≡ r) × (has w.idempotent r ≡ true)

@@ -1,5 +1,6 @@
 #![tactic(auto)]
 
+pub mod folded;
 pub mod settle;
 pub mod settled;
 pub mod watchers;

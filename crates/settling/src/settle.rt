@@ -4,10 +4,11 @@ ghost use Rattle.bounds.specs.Boards.{sound, spread};
 ghost use Rattle.rule_families.specs.Narrows.{Narrows};
 ghost use Rattle.settling.specs.Asleep.{Asleep, AsleepBut, Asked, AskedAt, Woken, WokenAmong, Taken, SameOutside, Within64, Marked};
 ghost use Rattle.settling.specs.Settles.{Settles, SettlesOrBegins, SettlesOn};
-ghost use Rattle.settling.specs.Watching.{Watching};
+ghost use Rattle.settling.specs.Folded.{FoldedWatching};
 
+use crate::folded::FoldedWatchers;
 use crate::settled::Settled;
-use crate::watchers::{FEW_CELLS, FEW_RULES, MOST_CELLS, Room, SOME_CELLS, SOME_RULES, Watchers};
+use crate::watchers::{FEW_CELLS, FEW_RULES, MOST_CELLS, Room, SOME_CELLS, SOME_RULES};
 use bounds::row::Row;
 use rule_families::change::Change;
 use rule_families::family::{Family, MOST_RULES};
@@ -120,7 +121,7 @@ fn settle_in<F: Family, const CELLS: usize, const RULES: usize>(
     requires room { (CELLS ≤ 1024) × (RULES ≤ 4096) }
     ensures { Settles (F.meaning family.now) rows.old rows.new result }
 {
-    let mut watchers = Watchers::<CELLS, RULES>::none(family);
+    let mut watchers = FoldedWatchers::<CELLS, RULES>::none(family);
     watchers.list_all(family, rows.len());
     let mut room = [Row::default(); CELLS];
     settle_from(family, &watchers, pending, &mut room[..rows.len()], rows)
@@ -131,14 +132,14 @@ fn settle_in<F: Family, const CELLS: usize, const RULES: usize>(
 // Kept: the scan changes which rules are pending and is left from inside, which an iterator over them cannot be.
 pub fn settle_from<F: Family, const CELLS: usize, const RULES: usize>(
     family: &F,
-    watchers: &Watchers<CELLS, RULES>,
+    watchers: &FoldedWatchers<CELLS, RULES>,
     pending: &RuleSet,
     before: &mut [Row],
     rows: &mut [Row],
 ) -> Settled
     requires sound { sound rows.old ≡ true }
     requires few { length rows.old ≤ 1024 }
-    requires watching { Watching (F.meaning family.now) (length rows.old) watchers.now }
+    requires watching { FoldedWatching (F.meaning family.now) (length rows.old) watchers.now }
     requires asleep { Asleep (F.meaning family.now) rows.old pending.now }
     requires before { length before.old ≡ length rows.old }
     ensures { Settles (F.meaning family.now) rows.old rows.new result }
@@ -175,14 +176,14 @@ pub fn settle_from<F: Family, const CELLS: usize, const RULES: usize>(
 #[inline(never)]
 pub fn settle_stirred<F: Family, const CELLS: usize, const RULES: usize>(
     family: &F,
-    watchers: &Watchers<CELLS, RULES>,
+    watchers: &FoldedWatchers<CELLS, RULES>,
     stirred: Option<usize>,
     before: &mut [Row],
     rows: &mut [Row],
 ) -> Settled
     requires sound { sound rows.old ≡ true }
     requires few { length rows.old ≤ 1024 }
-    requires watching { Watching (F.meaning family.now) (length rows.old) watchers.now }
+    requires watching { FoldedWatching (F.meaning family.now) (length rows.old) watchers.now }
     requires asleep { AsleepBut (F.meaning family.now) watchers.now stirred rows.old }
     requires before { length before.old ≡ length rows.old }
     ensures { Settles (F.meaning family.now) rows.old rows.new result }
@@ -198,7 +199,7 @@ pub fn settle_stirred<F: Family, const CELLS: usize, const RULES: usize>(
 #[tactic(auto, using(crate::proofs::Sleeps::same_outside))]
 fn apply<F: Family, const CELLS: usize, const RULES: usize>(
     family: &F,
-    watchers: &Watchers<CELLS, RULES>,
+    watchers: &FoldedWatchers<CELLS, RULES>,
     rule: usize,
     rows: &mut [Row],
     before: &mut [Row],
@@ -207,7 +208,7 @@ fn apply<F: Family, const CELLS: usize, const RULES: usize>(
     requires sound { sound rows.old ≡ true }
     requires few { length rows.old ≤ 1024 }
     requires listed { (rule < 4096) × (rule < RULES) }
-    requires watching { Watching (F.meaning family.now) (length rows.old) watchers.now }
+    requires watching { FoldedWatching (F.meaning family.now) (length rows.old) watchers.now }
     requires before { before.old ≡ rows.old }
     ensures narrows { Narrows ((F.meaning family.now).rule rule).narrowed rows.old rows.new result }
     ensures marks { Marked watchers.now rule rows.old rows.new pending.old pending.new result }
@@ -240,7 +241,7 @@ fn width(rows: &[Row]) -> u32
 // Kept: not inlined, so that the scan takes no registers from the walk.
 #[inline(never)]
 fn wake<const CELLS: usize, const RULES: usize>(
-    watchers: &Watchers<CELLS, RULES>,
+    watchers: &FoldedWatchers<CELLS, RULES>,
     rule: usize,
     before: &mut [Row],
     rows: &[Row],
@@ -264,7 +265,7 @@ fn wake<const CELLS: usize, const RULES: usize>(
 
 // The same of the 64 cells from one on.
 fn wake_64<const CELLS: usize, const RULES: usize>(
-    watchers: &Watchers<CELLS, RULES>,
+    watchers: &FoldedWatchers<CELLS, RULES>,
     reach: u64,
     first: usize,
     before: &mut [Row],
@@ -292,7 +293,7 @@ fn wake_64<const CELLS: usize, const RULES: usize>(
 
 // The same of one cell.
 fn wake_at<const CELLS: usize, const RULES: usize>(
-    watchers: &Watchers<CELLS, RULES>,
+    watchers: &FoldedWatchers<CELLS, RULES>,
     cell: usize,
     before: &mut [Row],
     rows: &[Row],

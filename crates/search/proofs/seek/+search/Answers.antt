@@ -2,9 +2,9 @@ use Rattle.std.proofs.Common.{ℕ, Some, List, length, drop, sym, refl, ap, ◌�
 use Rattle.bounds.specs.declared.row.Row.{Row}
 use Rattle.bounds.specs.Boards.{sound, spread}
 use Rattle.settling.specs.Asleep.{AsleepBut}
-use Rattle.settling.specs.Watching.{Watching}
+use Rattle.settling.specs.Folded.{FoldedWatching}
 use Rattle.settling.proofs.Applied.{applied_narrower}
-use Rattle.search.proofs.Tries.{Node, keeps_same, none_voided, leaf_found, node, lower, fixed_sound, fixed_length, fixed_narrower, raised_narrower, tried_room, try_found, try_none, fixed_asleep, raised_asleep}
+use Rattle.search.proofs.Tries.{Node, keeps_same, none_voided, leaf_found, node, lower, fixed_sound, fixed_length, fixed_narrower, raised_narrower, tried_room, try_found, try_none, fixed_folded, raised_folded}
 use Rattle.search.proofs.seek.+search.Given as given
 use Rattle.search.proofs.seek.+search.Goals as goal
 use Rattle.search.proofs.seek.+search.Goals.{In-Some}
@@ -59,10 +59,10 @@ search-requires g t c κs within =
                     (
                       rw (n, is) (omega (arith, tried_room _ _ _ _ d (length c.loop-level.rest) (omega arith))),
                       (
-                        subst (λ (k : ℕ). Watching (g.F.Family.meaning c.args.family.now) k c.args.watchers.now) (sym n) at,
+                        subst (λ (k : ℕ). FoldedWatching (g.F.Family.meaning c.args.family.now) k c.args.watchers.now) (sym n) at,
                         (
                           subst (λ (x : List Row). AsleepBut (g.F.Family.meaning c.args.family.now) c.args.watchers.now (Some c.in-Some.cell) x) (sym is)
-                              (fixed_asleep _ _ _ _ d (g.F.Family.lawful c.args.family.now) _ at),
+                              (fixed_folded _ _ _ _ d (g.F.Family.lawful c.args.family.now) _ at),
                           omega (arith, c.requires.before),
                         ),
                       ),
@@ -97,4 +97,4 @@ pub loop-level-preserved : goal.loop-level-preserved
 loop-level-preserved g t c =
     let d = at-cell g t (goal.at.loop-level-preserved g t c).In-Some in
     let (kept, same) = try_none (g.F.Family.meaning c.args.family.now) _ _ _ d _ c.branch-level.ensures.tried _ _ _ c.loop-level.invariant.1 c.if-search.ensures in
-    rw c.branch-level.ensures.left (kept, same, raised_asleep _ _ _ _ d (g.F.Family.lawful c.args.family.now) _ c.requires.watching)
+    rw c.branch-level.ensures.left (kept, same, raised_folded _ _ _ _ d (g.F.Family.lawful c.args.family.now) _ c.requires.watching)

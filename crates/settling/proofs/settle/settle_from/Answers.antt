@@ -4,7 +4,7 @@ use Rattle.rule_sets.proofs.Bits.{passed_still}
 use Rattle.settling.proofs.Scans.{scanned_sound, scanned_narrower, scan_ends, scan_voids, scan_quiet, scan_narrows}
 use Rattle.settling.proofs.settle.settle_from.Goals as goal
 use Rattle.settling.specs.Plans.{stay}
-use Rattle.settling.specs.Watching.{Watching}
+use Rattle.settling.specs.Folded.{FoldedWatching}
 
 pub scan-init : goal.scan-init
 scan-init g c = record { applied = stay; asleep = c.requires.asleep; rests = λ q e. absurd (none-some q e); seen = c.copy_from_slice.ensures.after; long = refl }
@@ -18,7 +18,7 @@ apply-requires g c = let at = c.requires.watching in let k = c.loop-rule.invaria
       omega (arith, k.long),
       (
         (omega (arith, at.few, r), omega (arith, at.rules, r)),
-        (subst (λ n. Watching (g.F.Family.meaning c.args.family.now) n c.args.watchers.now) (sym k.long) at, k.seen),
+        (subst (λ n. FoldedWatching (g.F.Family.meaning c.args.family.now) n c.args.watchers.now) (sym k.long) at, k.seen),
       ),
     ),
   ),

@@ -1,5 +1,5 @@
-use Rattle.settling.proofs.Lists.{StirredTo}
-use Rattle.settling.proofs.watchers.Watchers.wake.Given as goal
+use Rattle.settling.proofs.Folds.{StirredTo}
+use Rattle.settling.proofs.folded.FoldedWatchers.wake.Given as goal
 
 abbrev pub invariant-loop-word : goal.invariant-loop-word
 invariant-loop-word g l = StirredTo l.self l.cell l.word l.initial.pending l.pending

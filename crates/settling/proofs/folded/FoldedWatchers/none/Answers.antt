@@ -1,6 +1,6 @@
 use Rattle.std.proofs.Common.{◌%◌, arith}
-use Rattle.settling.proofs.Lists.{none_on}
-use Rattle.settling.proofs.watchers.Watchers.none.Goals as goal
+use Rattle.settling.proofs.Folds.{none_on}
+use Rattle.settling.proofs.folded.FoldedWatchers.none.Goals as goal
 
 pub returns : goal.returns
 returns g c n l =

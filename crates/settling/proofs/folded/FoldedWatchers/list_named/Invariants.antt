@@ -1,5 +1,5 @@
-use Rattle.settling.proofs.Lists.{NamedTo}
-use Rattle.settling.proofs.watchers.Watchers.list_named.Given as goal
+use Rattle.settling.proofs.Folds.{NamedTo}
+use Rattle.settling.proofs.folded.FoldedWatchers.list_named.Given as goal
 
 abbrev pub invariant-loop-cell : goal.invariant-loop-cell
 invariant-loop-cell g l = NamedTo l.named l.cell-index l.rule l.initial.self l.self l.bits
