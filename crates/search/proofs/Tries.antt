@@ -185,6 +185,7 @@ module _ (m : Meaning) (b a : List Row) (c : ℕ) (d : Node m b a c) where
     raised_asleep = let o = lower in
         stirs_listed m laws a c _ w (length b) at d.kept.still_sound d.len d.quiet (omega (arith, d.here, d.len)) (sound_set a c _ d.kept.still_sound (omega arith))
 
+  -- the same of a folded table
   module _ (laws : FiveLaws m) {C R : ℕ} (w : FoldedWatchers C R) (at : FoldedWatching m (length b) w) where
     pub fixed_folded : AsleepBut m w (Some c) (fixed_at a c)
     fixed_folded = stirs_folded m laws a c _ w (length b) at d.kept.still_sound d.len d.quiet (omega (arith, d.here, d.len)) fixed_sound

@@ -409,26 +409,26 @@ module _ {C R : ℕ} (w : FoldedWatchers C R) (c i : ℕ) (p p' p'' : RuleSet) (
     others = λ q l. there q (λ e. absurd (omega (arith, e))) ∙ h.others q (omega arith);
   }
 
--- of up to 64 cells, or up to 64 rules, just the rules that touch a cell are listed with it
-module _ {C R : ℕ} (m : Meaning) (n : ℕ) (w : FoldedWatchers C R) (at : FoldedWatching m n w) (few : (n ≤ 64) ⊎ (m.size ≤ 64)) where
-  touches_where_listed : (c q : ℕ) → c < n → watched w c q ≡ true → (q < m.size) × ((m.rule q).touches n c ≡ true)
+-- of up to 64 cells, or of up to 64 rules listed, just those that touch a cell are listed with it
+module _ {C R : ℕ} (m : Meaning) (n r : ℕ) (w : FoldedWatchers C R) (at : FoldedWatchingBelow m n r w) (few : (n ≤ 64) ⊎ (r ≤ 64)) where
+  touches_where_listed : (c q : ℕ) → c < n → watched w c q ≡ true → (q < r) × ((m.rule q).touches n c ≡ true)
   touches_where_listed c q l on =
       let (with_c, with_q) = and_parts (with_cell w c (q % 64)) (with_rule w q (c % 64)) on in
       let (below, (d, fits, same, touched)) = at.rule_only q (c % 64) (omega arith) with_q in
       elim few [
         | inl cells ↦ (below, ap ((m.rule q).touches n) (omega (arith, same)) ∙ touched)
         | inr rules ↦
-            let (r, listed, alike, meets) = at.cell_only c (q % 64) (omega arith) with_c in
+            let (s, listed, alike, meets) = at.cell_only c (q % 64) (omega arith) with_c in
             (below, ap (λ i. (m.rule i).touches n c) (omega (arith, alike)) ∙ meets)
       ]
 
-  pub folded_exact : (c q : ℕ) → c < n → watched w c q ≡ (ltb q m.size && (m.rule q).touches n c)
+  pub folded_exact : (c q : ℕ) → c < n → watched w c q ≡ (ltb q r && (m.rule q).touches n c)
   folded_exact c q l = elim (cases_Bool (watched w c q)) [
-    | inl listed ↦ let (below, touched) = touches_where_listed c q l listed in listed ∙ sym (and_from _ _ (lt-ltb q m.size below) touched)
-    | inr off ↦ elim (cases_Bool (ltb q m.size && (m.rule q).touches n c)) [
+    | inl listed ↦ let (below, touched) = touches_where_listed c q l listed in listed ∙ sym (and_from _ _ (lt-ltb q r below) touched)
+    | inr off ↦ elim (cases_Bool (ltb q r && (m.rule q).touches n c)) [
       | inl both ↦
-          let (below, touched) = and_parts (ltb q m.size) ((m.rule q).touches n c) both in
-          absurd (true≢false (sym (at.listed c q l (ltb-true q m.size below) touched) ∙ off))
+          let (below, touched) = and_parts (ltb q r) ((m.rule q).touches n c) both in
+          absurd (true≢false (sym (at.listed c q l (ltb-true q r below) touched) ∙ off))
       | inr neither ↦ off ∙ sym neither
     ]
   ]

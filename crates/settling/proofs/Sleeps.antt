@@ -51,6 +51,7 @@ module _ (m : Meaning) (laws : FiveLaws m) (a : List Row) (c : ℕ) (x : Row) (w
       stirs_no_other m laws a c x n s long quiet t q l (λ touched.
       true≢false (sym (at.listed c q here ∙ both _ _ (lt-ltb q m.size l) touched) ∙ asleep))
 
+-- the same of a folded table
 module _ {C R : ℕ} (m : Meaning) (laws : FiveLaws m) (a : List Row) (c : ℕ) (x : Row) (w : FoldedWatchers C R) (n : ℕ) (at : FoldedWatching m n w) where
   pub stirs_folded : sound a ≡ true → length a ≡ n → Still m (cells a) → c < n → sound (set a c x) ≡ true → AsleepBut m w (Some c) (set a c x)
   stirs_folded s long quiet here t = (

@@ -1,4 +1,4 @@
-// The rules of a family by the cells that they touch, by their numbers modulo 64.
+// The rules by cell and the cells by rule, both by their numbers modulo 64.
 ghost use Rattle.std.specs.Prelude.{◌≡◌, ℕ, ◌*◌, ◌%◌, ◌<◌, ◌≤◌, true, length, slice_index};
 ghost use Rattle.bounds.specs.Scoped.{names};
 ghost use Rattle.settling.specs.Folded.{FoldedWatching, FoldedWatchingBelow, FoldedListed, ListedAt, ListedWith, Stirred, FoldedRests};
@@ -10,8 +10,8 @@ use rule_sets::rule_set::{RuleSet, with_bit};
 // A rule that touches more cells is listed by its marks.
 const MOST_LISTED: usize = 66;
 
-// The rules by cell and the cells by rule. A set of rules for each cell would take half a mebibyte of the stack; on a board of
-// more than 64 cells and rules, this may list a rule with a cell that it does not touch, and then it is woken for nothing.
+// A set of rules for each cell would take half a mebibyte of the stack. Of both more than 64 cells and more than 64 rules, this
+// may list a rule with a cell that it does not touch, and then it is woken for nothing.
 #[derive(Drop)]
 pub struct FoldedWatchers<const CELLS: usize, const RULES: usize> {
     // For each cell the rules that touch it, by their numbers modulo 64.

@@ -40,8 +40,7 @@ impl Room {
     }
 }
 
-// With each cell just the rules that touch it. It takes half a mebibyte of the stack; settles and searches look rules up in a
-// folded table, which is smaller.
+// With each cell just the rules that touch it. Settles and searches take a folded table, which is smaller.
 #[derive(Drop)]
 pub struct Watchers {
     // For each cell the rules that touch it, and how many words of a set hold all rules.
